@@ -1,0 +1,4 @@
+pub mod Computing
+pub mod Samples
+pub mod Cuts
+pub mod Sizes

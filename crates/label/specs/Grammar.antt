@@ -1,0 +1,16 @@
+-- The notations' grammars under their numbers.
+use Prim.Native.Nat.{ℕ}
+use mathlib.Core.List.{List}
+use Rattle.label.specs.Notations.{fits as fits-number, ogip as ogip-number, cds as cds-number, vounits as vounits-number}
+use Rattle.label.specs.Lexical.{Factor, Part}
+use Rattle.label.specs.Fits as Fits
+use Rattle.label.specs.Ogip as Ogip
+use Rattle.label.specs.Cds as Cds
+use Rattle.label.specs.Vounits as Vounits
+
+-- Derives n s f ps: the text s is in the grammar of notation n, limits not counted, with the factor f and the units ps.
+pub data Derives : ℕ → List ℕ → Factor → List Part → Type 0 where
+  fits : {s : List ℕ} {f : Factor} {ps : List Part} → Fits.Label s f ps → Derives fits-number s f ps
+  ogip : {s : List ℕ} {f : Factor} {ps : List Part} → Ogip.Label s f ps → Derives ogip-number s f ps
+  cds : {s : List ℕ} {f : Factor} {ps : List Part} → Cds.Label s f ps → Derives cds-number s f ps
+  vounits : {s : List ℕ} {f : Factor} {ps : List Part} → Vounits.Label s f ps → Derives vounits-number s f ps

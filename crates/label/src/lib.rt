@@ -1,0 +1,34 @@
+// Unit labels. The definitions of specs/ say what a label means; this file has the types that they share with the code.
+
+// An exponent, counted in sixtieths.
+pub struct Exponent(pub i32);
+
+// A power of ten, counted in tens.
+pub struct Tens(pub i32);
+
+// The rules by which a notation reads its labels.
+pub struct Rules {
+    // Spellings: a percent sign; letters in quotes.
+    pub percent: bool,
+    pub quotes: bool,
+    // Exponents: an integer directly; a bracketed power directly; two stars and a power; a caret and a power.
+    pub direct: bool,
+    pub brackets: bool,
+    pub stars: bool,
+    pub caret: bool,
+    // Products: by one space; by any number of spaces, which may also stand around a star or a slash; by a star; by a point.
+    pub space: bool,
+    pub spaces: bool,
+    pub star: bool,
+    pub point: bool,
+    // Slashes: each turns over the next unit or group, and one may lead; one before the last unit or group of the whole;
+    // one before the last unit or group of a group; one before the only unit or group of the whole.
+    pub each: bool,
+    pub last: bool,
+    pub within: bool,
+    pub lead: bool,
+    // Factors: an integer in brackets after the stars; 10 and a signed integer; plain 1, 10, 100 and so on.
+    pub wrapped: bool,
+    pub signed: bool,
+    pub plain: bool,
+}

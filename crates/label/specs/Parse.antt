@@ -181,10 +181,10 @@ unfoldable pub product-at : Option (List ℕ) → Bool → (Bool → List ℕ �
 product-at (some t) b f g s = chained (f (not b) t) (g b)
 product-at nothing b f g s = chained (f b s) (g b)
 
--- the one slash that may come after a product, and the item under it
-unfoldable pub quotient-on : Bool → (List ℕ → Found (List Part)) → List Part → List ℕ → Found (List Part)
-quotient-on l f ps [] = found ps []
-quotient-on l f ps (c ∷ s) = elim (eqb c slash && l) [ true ↦ appended ps (f s) | false ↦ found ps (c ∷ s) ]
+-- the one slash that may come after a product, where not each slash joins, and the item under it
+unfoldable pub quotient-on : Rules → (List ℕ → Found (List Part)) → List Part → List ℕ → Found (List Part)
+quotient-on r f ps [] = found ps []
+quotient-on r f ps (c ∷ s) = pick (eqb c slash && not (r .each)) (appended ps (f s)) (found ps (c ∷ s))
 
 -- what a group holds
 abbrev pub inside : Rules → Kind
@@ -195,7 +195,7 @@ read r zero x b s = none
 read r (suc k) item b s = item-by r b (λ u. read r k (inside r) b u) s
 read r (suc k) more b s = more-at (joint r s) b (λ d u. read r k item d u) (λ d u. read r k more d u) s
 read r (suc k) product b s = product-at (leading r s) b (λ d u. read r k item d u) (λ d u. read r k more d u) s
-read r (suc k) quotient b s = then (read r k product b s) (λ ps t. quotient-on (r .last) (λ u. read r k item (not b) u) ps t)
+read r (suc k) quotient b s = then (read r k product b s) (λ ps t. quotient-on r (λ u. read r k item (not b) u) ps t)
 
 -- FACTORS
 

@@ -21,10 +21,9 @@ pub struct Rules {
     pub spaces: bool,
     pub star: bool,
     pub point: bool,
-    // Slashes: each turns over the next unit or group, and one may lead; one before the last unit or group of the whole;
-    // one before the last unit or group of a group; one before the only unit or group of the whole.
+    // Slashes: each turns over the next unit or group, and one may lead (else at most one stands, before the last unit or
+    // group of the whole); one before the last unit or group of a group; one before the only unit or group of the whole.
     pub each: bool,
-    pub last: bool,
     pub within: bool,
     pub lead: bool,
     // Factors: an integer in brackets after the stars; 10 and a signed integer; plain 1, 10, 100 and so on.

@@ -1,0 +1,186 @@
+-- Laws of tests, classes of bytes, runs, and what is found.
+use Prim.Native.Nat.{ℕ, _≤_}
+use native.Mathlib.Omega.{arith}
+use mathlib.Core.Path.{_≡_, refl, sym, _∙_, ap}
+use mathlib.Core.Bool.{Bool, true, false, _&&_, _||_, not}
+use mathlib.Core.List.{List, [], _∷_, _++_}
+use mathlib.Core.Option.{Option, none as nothing, some}
+use lib.Dec.{T, eqb, leb, leb→le}
+use borrow.Author.Tests.{eqb-true, lt-leb, le-leb}
+use Rattle.label.specs.Bytes.{letter, digit, nonzero, all, run, past}
+use Rattle.label.specs.Parse.{Found, none, found, then, mapped, byte, closed}
+use Rattle.label.specs.Choice.{pick}
+
+-- TESTS
+
+pub false-true : false ≡ true → ⊥
+false-true e = let z : _≡_ {A = ℕ} 0 1 = cc in omega arith
+
+pub T→true : (b : Bool) → T b → b ≡ true
+T→true true t = refl
+
+pub true→T : {b : Bool} → b ≡ true → T b
+true→T e = rw e tt
+
+pub both : (a b : Bool) → T (a && b) → T a × T b
+both true true t = (tt, tt)
+
+pub T-and : (a b : Bool) → T a → T b → T (a && b)
+T-and true true t u = tt
+
+pub and-left : (x y : Bool) → (x && y) ≡ true → x ≡ true
+and-left true y e = refl
+and-left false y e = e
+
+pub and-right : (x y : Bool) → (x && y) ≡ true → y ≡ true
+and-right true y e = e
+and-right false y e = absurd (false-true e)
+
+-- FOUND
+
+pub none-found : {A : Type 0} {a : A} {s : List ℕ} → _≡_ {A = Found A} none (found a s) → ⊥
+none-found e = let z : _≡_ {A = ℕ} 0 1 = cc in omega arith
+
+pub none-some : {A : Type 0} {a : A} → _≡_ {A = Option A} nothing (some a) → ⊥
+none-some e = let z : _≡_ {A = ℕ} 0 1 = cc in omega arith
+
+-- both halves of one thing and then another
+pub record Then (A B : Type 0) (x : Found A) (f : A → List ℕ → Found B) (b : B) (u : List ℕ) : Type 0 where
+  pub value : A
+  pub mid : List ℕ
+  pub one : x ≡ found value mid
+  pub two : f value mid ≡ found b u
+
+pub then-found : {A B : Type 0} (x : Found A) (f : A → List ℕ → Found B) (b : B) (u : List ℕ) → then x f ≡ found b u → Then A B x f b u
+unfolding then
+then-found none f b u h = absurd (none-found h)
+then-found (found a s) f b u h = record { value = a; mid = s; one = refl; two = h }
+
+pub record Mapped (A B : Type 0) (f : A → B) (x : Found A) (b : B) (u : List ℕ) : Type 0 where
+  pub value : A
+  pub one : x ≡ found value u
+  pub is : f value ≡ b
+
+pub mapped-found : {A B : Type 0} (f : A → B) (x : Found A) (b : B) (u : List ℕ) → mapped f x ≡ found b u → Mapped A B f x b u
+unfolding mapped
+mapped-found f none b u h = absurd (none-found h)
+mapped-found f (found a s) b u h = record { value = a; one = (cc); is = (cc) }
+
+pub byte-found : {A : Type 0} (c : ℕ) (a b : A) (s u : List ℕ) → byte c a s ≡ found b u → (a ≡ b) × (s ≡ c ∷ u)
+unfolding byte
+byte-found c a b [] u h = absurd (none-found h)
+byte-found c a b (d ∷ s) u h = go (eqb d c) refl h
+  where
+    go : (x : Bool) → eqb d c ≡ x → pick x (found a s) none ≡ found b u → (a ≡ b) × (d ∷ s ≡ c ∷ u)
+    go true e h = ((cc), (cc (eqb-true d c e)))
+    go false e h = absurd (none-found h)
+
+-- a value, then a closing bracket
+pub record Closed (A B : Type 0) (f : A → B) (x : Found A) (b : B) (u : List ℕ) : Type 0 where
+  pub value : A
+  pub one : x ≡ found value (41 ∷ u)
+  pub is : f value ≡ b
+
+pub closed-found : {A B : Type 0} (f : A → B) (x : Found A) (b : B) (u : List ℕ) → closed f x ≡ found b u → Closed A B f x b u
+unfolding closed
+closed-found f x b u h =
+    let w = then-found x (λ a s. byte 41 (f a) s) b u h in
+    let v = byte-found 41 (f (w .value)) b (w .mid) u (w .two) in
+    record { value = w .value; one = w .one ∙ ap (λ (l : List ℕ). found (w .value) l) (v .1); is = v .0 }
+
+-- CLASSES
+
+-- a byte of a class is not a byte v that fails the class's test
+pub differs : (p : ℕ → Bool) (c v : ℕ) → T (p c) → p v ≡ false → eqb c v ≡ false
+differs p c v t e = go (eqb c v) refl
+  where
+    go : (b : Bool) → eqb c v ≡ b → eqb c v ≡ false
+    go true h = absurd (rw (eqb-true c v h, e) at t)
+    go false h = h
+
+pub nonzero-bounds : (c : ℕ) → T (nonzero c) → (49 ≤ c) × (c ≤ 57)
+unfolding nonzero
+nonzero-bounds c t =
+    let w = both (leb 49 c) (leb c 57) t in
+    (leb→le 49 c (w .0), leb→le c 57 (w .1))
+
+pub nonzero-digit : (c : ℕ) → T (nonzero c) → digit c ≡ true
+unfolding digit
+nonzero-digit c t =
+    let w = nonzero-bounds c t in
+    rw (le-leb 48 c (omega arith), le-leb c 57 (w .1))
+
+pub digit-bounds : (c : ℕ) → T (digit c) → (48 ≤ c) × (c ≤ 57)
+unfolding digit
+digit-bounds c t =
+    let w = both (leb 48 c) (leb c 57) t in
+    (leb→le 48 c (w .0), leb→le c 57 (w .1))
+
+pub digit-no-letter : (c : ℕ) → T (digit c) → letter c ≡ false
+unfolding letter
+digit-no-letter c t =
+    let w = digit-bounds c t in
+    rw (lt-leb 65 c (omega arith), lt-leb 97 c (omega arith))
+
+-- RUNS
+
+-- the byte after a run of a class is not of the class
+pub data Stops (p : ℕ → Bool) : List ℕ → Type 0 where
+  end : Stops p []
+  other : {c : ℕ} {s : List ℕ} → p c ≡ false → Stops p (c ∷ s)
+
+pub run-of : (p : ℕ → Bool) (s rest : List ℕ) → T (all p s) → Stops p rest → run p (s ++ rest) ≡ s
+unfolding run all
+run-of p [] rest t end = refl
+run-of p [] rest t (other e) = rw e
+run-of p (c ∷ s) rest t h =
+    let w = both (p c) (all p s) t in
+    rw (T→true (p c) (w .0), run-of p s rest (w .1) h)
+
+pub past-of : (p : ℕ → Bool) (s rest : List ℕ) → T (all p s) → Stops p rest → past p (s ++ rest) ≡ rest
+unfolding past all
+past-of p [] rest t end = refl
+past-of p [] rest t (other e) = rw e
+past-of p (c ∷ s) rest t h =
+    let w = both (p c) (all p s) t in
+    rw (T→true (p c) (w .0), past-of p s rest (w .1) h)
+
+-- a run and what follows it make the text, and the run is of the class
+pub run-past : (p : ℕ → Bool) (s : List ℕ) → s ≡ run p s ++ past p s
+unfolding run past
+run-past p [] = refl
+run-past p (c ∷ s) = go (p c) refl (run-past p s)
+  where
+    go : (b : Bool) → p c ≡ b → s ≡ run p s ++ past p s → c ∷ s ≡ Rattle.label.specs.Bytes.run-on b c (run p s) ++ Rattle.label.specs.Bytes.past-on b (past p s) (c ∷ s)
+    go true e ih = ap (λ (l : List ℕ). c ∷ l) ih
+    go false e ih = refl
+
+pub run-all : (p : ℕ → Bool) (s : List ℕ) → T (all p (run p s))
+unfolding run all
+run-all p [] = tt
+run-all p (c ∷ s) = go (p c) refl (run-all p s)
+  where
+    go : (b : Bool) → p c ≡ b → T (all p (run p s)) → T (all p (Rattle.label.specs.Bytes.run-on b c (run p s)))
+    go true e ih = T-and (p c) (all p (run p s)) (true→T e) ih
+    go false e ih = tt
+
+-- WHAT MAY FOLLOW A UNIT OR A GROUP IN ANY NOTATION
+
+-- the text does not begin with a star
+pub data NoStar : List ℕ → Type 0 where
+  end : NoStar []
+  other : {c : ℕ} {s : List ℕ} → eqb c 42 ≡ false → NoStar (c ∷ s)
+
+-- the end, a space, a closing bracket, a star that is not two, a point, a slash
+pub data Ends : List ℕ → Type 0 where
+  end : Ends []
+  space : {s : List ℕ} → Ends (32 ∷ s)
+  close : {s : List ℕ} → Ends (41 ∷ s)
+  star : {s : List ℕ} → NoStar s → Ends (42 ∷ s)
+  point : {s : List ℕ} → Ends (46 ∷ s)
+  slash : {s : List ℕ} → Ends (47 ∷ s)
+
+-- the text goes on with no letter and no quote
+pub data Unlettered : List ℕ → Type 0 where
+  end : Unlettered []
+  other : {c : ℕ} {s : List ℕ} → letter c ≡ false → eqb c 39 ≡ false → Unlettered (c ∷ s)

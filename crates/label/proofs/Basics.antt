@@ -7,7 +7,7 @@ use mathlib.Core.List.{List, [], _∷_, _++_}
 use mathlib.Core.Option.{Option, none as nothing, some}
 use lib.Dec.{T, eqb, leb, leb→le}
 use borrow.Author.Tests.{eqb-true, lt-leb, le-leb}
-use Rattle.label.specs.Bytes.{letter, digit, nonzero, all, run, past}
+use Rattle.label.specs.Bytes.{letter, digit, nonzero, all, run-on, run, past-on, past, same}
 use Rattle.label.specs.Parse.{Found, none, found, then, mapped, byte, closed}
 use Rattle.label.specs.Choice.{pick}
 
@@ -122,6 +122,25 @@ digit-no-letter c t =
     let w = digit-bounds c t in
     rw (lt-leb 65 c (omega arith), lt-leb 97 c (omega arith))
 
+pub letter-no-digit : (c : ℕ) → T (letter c) → digit c ≡ false
+letter-no-digit c t = go (digit c) refl
+  where
+    go : (b : Bool) → digit c ≡ b → digit c ≡ false
+    go true e = absurd (false-true (sym (digit-no-letter c (true→T e)) ∙ T→true (letter c) t))
+    go false e = e
+
+-- the same bytes are one text
+pub same-is : (s t : List ℕ) → same s t ≡ true → s ≡ t
+unfolding same
+same-is [] [] e = refl
+same-is [] (d ∷ t) e = absurd (false-true e)
+same-is (c ∷ s) [] e = absurd (false-true e)
+same-is (c ∷ s) (d ∷ t) e = go (eqb c d) refl (λ e. same-is s t e) e
+  where
+    go : (x : Bool) → eqb c d ≡ x → (same s t ≡ true → s ≡ t) → (x && same s t) ≡ true → c ∷ s ≡ d ∷ t
+    go true p ih e = cc (eqb-true c d p, ih e)
+    go false p ih e = absurd (false-true e)
+
 -- RUNS
 
 -- the byte after a run of a class is not of the class
@@ -151,7 +170,7 @@ unfolding run past
 run-past p [] = refl
 run-past p (c ∷ s) = go (p c) refl (run-past p s)
   where
-    go : (b : Bool) → p c ≡ b → s ≡ run p s ++ past p s → c ∷ s ≡ Rattle.label.specs.Bytes.run-on b c (run p s) ++ Rattle.label.specs.Bytes.past-on b (past p s) (c ∷ s)
+    go : (b : Bool) → p c ≡ b → s ≡ run p s ++ past p s → c ∷ s ≡ run-on b c (run p s) ++ past-on b (past p s) (c ∷ s)
     go true e ih = ap (λ (l : List ℕ). c ∷ l) ih
     go false e ih = refl
 
@@ -160,7 +179,7 @@ unfolding run all
 run-all p [] = tt
 run-all p (c ∷ s) = go (p c) refl (run-all p s)
   where
-    go : (b : Bool) → p c ≡ b → T (all p (run p s)) → T (all p (Rattle.label.specs.Bytes.run-on b c (run p s)))
+    go : (b : Bool) → p c ≡ b → T (all p (run p s)) → T (all p (run-on b c (run p s)))
     go true e ih = T-and (p c) (all p (run p s)) (true→T e) ih
     go false e ih = tt
 

@@ -9,6 +9,7 @@ use mathlib.Core.Logic.{_⊎_, inl, inr}
 use lib.Dec.{T, leb, eqb, leb→le}
 use lib.ListN.{length}
 use borrow.Author.Tests.{eqb-true}
+use Rattle.label.proofs.Basics.{false-true, none-some, both, same-is}
 use Rattle.label.proofs.Computing.{symbols-compute}
 use Rattle.label.specs.Bytes.{same, all}
 use Rattle.label.specs.Choice.{pick}
@@ -42,26 +43,6 @@ unfolding cuts-pass prefixes-pass rows-pass names-pass single symbols-compute
 all-pass = tt
 
 -- THE LAW
-
-both : (a b : Bool) → T (a && b) → T a × T b
-both true true t = (tt, tt)
-
-false-true : false ≡ true → ⊥
-false-true e = let z : _≡_ {A = ℕ} 0 1 = cc in omega arith
-
-none-some : {A : Type 0} {a : A} → _≡_ {A = Option A} none (some a) → ⊥
-none-some e = let z : _≡_ {A = ℕ} 0 1 = cc in omega arith
-
-same-is : (s t : List ℕ) → same s t ≡ true → s ≡ t
-unfolding same
-same-is [] [] e = refl
-same-is [] (d ∷ t) e = absurd (false-true e)
-same-is (c ∷ s) [] e = absurd (false-true e)
-same-is (c ∷ s) (d ∷ t) e = go (eqb c d) refl (λ e. same-is s t e) e
-  where
-    go : (x : Bool) → eqb c d ≡ x → (same s t ≡ true → s ≡ t) → (x && same s t) ≡ true → c ∷ s ≡ d ∷ t
-    go true p ih e = cc (eqb-true c d p, ih e)
-    go false p ih e = absurd (false-true e)
 
 -- what follows a beginning makes the whole with it
 follows-is : (p l r : List ℕ) → follows p l ≡ some r → l ≡ p ++ r

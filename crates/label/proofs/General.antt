@@ -37,7 +37,7 @@ pub data OverBy (r : Rules) : List ℕ → Type 0 where
 
 -- G r x s t ps: by the rules r the text s begins with an x, which ends where t begins, and ps are its units.
 pub data G (r : Rules) : Kind → List ℕ → List ℕ → List Part → Type 0 where
-  unit : {l e t : List ℕ} {w : Written} → SpellingBy r l → ExponentBy r e w → G r item (l ++ e ++ t) t (part l w (e ++ t) ∷ [])
+  unit : {l e t : List ℕ} {w : Written} → SpellingBy r l → ExponentBy r e w → G r item (l ++ (e ++ t)) t (part l w (e ++ t) ∷ [])
   group : {s t : List ℕ} {ps : List Part} → G r (inside r) s (close-bracket ∷ t) ps → G r item (open-bracket ∷ s) t ps
   first : {s t u : List ℕ} {ps qs : List Part} → G r item s t ps → G r more t u qs → G r product s u (ps ++ qs)
   under : {j s t u : List ℕ} {ps qs : List Part} → OverBy r j → G r item s t ps → G r more t u qs → G r product (j ++ s) u (turned-all ps ++ qs)
@@ -45,7 +45,7 @@ pub data G (r : Rules) : Kind → List ℕ → List ℕ → List Part → Type 0
   times : {j s t u : List ℕ} {ps qs : List Part} → TimesBy r j → G r item s t ps → G r more t u qs → G r more (j ++ s) u (ps ++ qs)
   over : {j s t u : List ℕ} {ps qs : List Part} → OverBy r j → G r item s t ps → G r more t u qs → G r more (j ++ s) u (turned-all ps ++ qs)
   plain : {s t : List ℕ} {ps : List Part} → G r product s t ps → G r quotient s t ps
-  below : {s t u : List ℕ} {ps qs : List Part} → r .each ≡ false → G r product s (slash ∷ t) ps → G r item t u qs → G r quotient s u (ps ++ turned-all qs)
+  divided : {s t u : List ℕ} {ps qs : List Part} → r .each ≡ false → G r product s (slash ∷ t) ps → G r item t u qs → G r quotient s u (ps ++ turned-all qs)
 
 pub data WrappedBy (r : Rules) : List ℕ → Numeral → Type 0 where
   bare : {s : List ℕ} {n : Numeral} → Integer s n → WrappedBy r s n
@@ -66,4 +66,4 @@ pub data LabelBy (r : Rules) : List ℕ → Factor → List Part → Type 0 wher
   empty : LabelBy r [] no-factor []
   plain : {s : List ℕ} {ps : List Part} → Unspaced s → G r quotient s [] ps → LabelBy r s no-factor ps
   under : {s : List ℕ} {ps : List Part} → r .lead ≡ true → G r item s [] ps → LabelBy r (slash ∷ s) no-factor (turned-all ps)
-  factored : {x g s : List ℕ} {f : Factor} {ps : List Part} → FactorBy r x f → GapBy r g → G r quotient s [] ps → LabelBy r (x ++ g ++ s) f ps
+  factored : {x g s : List ℕ} {f : Factor} {ps : List Part} → FactorBy r x f → GapBy r g → G r quotient s [] ps → LabelBy r (x ++ (g ++ s)) f ps

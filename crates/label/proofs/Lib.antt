@@ -4,3 +4,10 @@ pub mod Cuts
 pub mod Sizes
 pub mod Basics
 pub mod General
+pub mod Joints
+pub mod LexComplete
+pub mod LexSound
+pub mod Signs
+pub mod Complete
+pub mod Sound
+pub mod Labels

@@ -18,7 +18,7 @@ pub data Exponent : List ℕ → Written → Type 0 where
 pub data Cds : Kind → List ℕ → List ℕ → List Part → Type 0 where
   -- "As OGIP, but a point for the product, no spaces": units or groups joined by a point or a slash, and each slash turns over only
   -- the next unit or group.
-  unit : {l e t : List ℕ} {w : Written} → Spelling l → Exponent e w → Cds item (l ++ e ++ t) t (part l w (e ++ t) ∷ [])
+  unit : {l e t : List ℕ} {w : Written} → Spelling l → Exponent e w → Cds item (l ++ (e ++ t)) t (part l w (e ++ t) ∷ [])
   first : {s t u : List ℕ} {ps qs : List Part} → Cds item s t ps → Cds more t u qs → Cds product s u (ps ++ qs)
   done : {s : List ℕ} → Cds more s s []
   times : {s t u : List ℕ} {ps qs : List Part} → Cds item s t ps → Cds more t u qs → Cds more (point ∷ s) u (ps ++ qs)

@@ -21,7 +21,7 @@ pub data Exponent : List ℕ → Written → Type 0 where
 -- Fits x s t ps: the text s begins with an x, which ends where t begins, and ps are its units.
 pub data Fits : Kind → List ℕ → List ℕ → List Part → Type 0 where
   -- "Product: units or groups joined by one space, a star or a point."
-  unit : {l e t : List ℕ} {w : Written} → Letters l → Exponent e w → Fits item (l ++ e ++ t) t (part l w (e ++ t) ∷ [])
+  unit : {l e t : List ℕ} {w : Written} → Letters l → Exponent e w → Fits item (l ++ (e ++ t)) t (part l w (e ++ t) ∷ [])
   first : {s t u : List ℕ} {ps qs : List Part} → Fits item s t ps → Fits more t u qs → Fits product s u (ps ++ qs)
   done : {s : List ℕ} → Fits more s s []
   times : {c : ℕ} {s t u : List ℕ} {ps qs : List Part} → Joint c → Fits item s t ps → Fits more t u qs → Fits more (c ∷ s) u (ps ++ qs)
@@ -50,4 +50,4 @@ pub data Label : List ℕ → Factor → List Part → Type 0 where
   plain : {s : List ℕ} {ps : List Part} → Fits quotient s [] ps → Label s no-factor ps
   under : {s : List ℕ} {ps : List Part} → Fits item s [] ps → Label (slash ∷ s) no-factor (turned-all ps)
   -- "No slash may come straight after the factor or its space." A product starts with a unit or a group.
-  factored : {x g s : List ℕ} {f : Factor} {ps : List Part} → Tens x f → Gap g → Fits quotient s [] ps → Label (x ++ g ++ s) f ps
+  factored : {x g s : List ℕ} {f : Factor} {ps : List Part} → Tens x f → Gap g → Fits quotient s [] ps → Label (x ++ (g ++ s)) f ps

@@ -24,7 +24,7 @@ pub data Exponent : List ℕ → Written → Type 0 where
 pub data Ogip : Kind → List ℕ → List ℕ → List Part → Type 0 where
   -- "Units or groups joined by one or more spaces, a star, or a slash, the last two with any spaces on each side."
   -- "Each slash turns over only the next unit or group."
-  unit : {l e t : List ℕ} {w : Written} → Letters l → Exponent e w → Ogip item (l ++ e ++ t) t (part l w (e ++ t) ∷ [])
+  unit : {l e t : List ℕ} {w : Written} → Letters l → Exponent e w → Ogip item (l ++ (e ++ t)) t (part l w (e ++ t) ∷ [])
   first : {s t u : List ℕ} {ps qs : List Part} → Ogip item s t ps → Ogip more t u qs → Ogip product s u (ps ++ qs)
   done : {s : List ℕ} → Ogip more s s []
   times : {j s t u : List ℕ} {ps qs : List Part} → Times j → Ogip item s t ps → Ogip more t u qs → Ogip more (j ++ s) u (ps ++ qs)
@@ -48,4 +48,4 @@ pub data Label : List ℕ → Factor → List Part → Type 0 where
   empty : Label [] no-factor []
   plain : {s : List ℕ} {ps : List Part} → Unspaced s → Ogip product s [] ps → Label s no-factor ps
   -- "then any number of spaces"
-  factored : {x g s : List ℕ} {f : Factor} {ps : List Part} → Tens x f → Spaces g → Ogip product s [] ps → Label (x ++ g ++ s) f ps
+  factored : {x g s : List ℕ} {f : Factor} {ps : List Part} → Tens x f → Spaces g → Ogip product s [] ps → Label (x ++ (g ++ s)) f ps

@@ -17,7 +17,7 @@ pub data Exponent : List ℕ → Written → Type 0 where
 -- Vounits x s t ps: the text s begins with an x, which ends where t begins, and ps are its units.
 pub data Vounits : Kind → List ℕ → List ℕ → List Part → Type 0 where
   -- "Product by points."
-  unit : {l e t : List ℕ} {w : Written} → Spelling l → Exponent e w → Vounits item (l ++ e ++ t) t (part l w (e ++ t) ∷ [])
+  unit : {l e t : List ℕ} {w : Written} → Spelling l → Exponent e w → Vounits item (l ++ (e ++ t)) t (part l w (e ++ t) ∷ [])
   first : {s t u : List ℕ} {ps qs : List Part} → Vounits item s t ps → Vounits more t u qs → Vounits product s u (ps ++ qs)
   done : {s : List ℕ} → Vounits more s s []
   times : {s t u : List ℕ} {ps qs : List Part} → Vounits item s t ps → Vounits more t u qs → Vounits more (point ∷ s) u (ps ++ qs)

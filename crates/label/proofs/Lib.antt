@@ -11,3 +11,5 @@ pub mod Signs
 pub mod Complete
 pub mod Sound
 pub mod Labels
+pub mod Instances
+pub mod Widest

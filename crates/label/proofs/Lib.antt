@@ -13,3 +13,5 @@ pub mod Sound
 pub mod Labels
 pub mod Instances
 pub mod Widest
+pub mod Derivations
+pub mod Refusals

@@ -28,7 +28,7 @@ pub data RuledBy : ℕ → Rules → Type 0 where
   vounits : RuledBy 4 vounits-rules
 
 -- a notation's derivations are those of the general grammar by its rules
-derives-by : {n : ℕ} {s : List ℕ} {f : Factor} {ps : List Part} → Derives n s f ps → (r : Rules) × RuledBy n r × LabelBy r s f ps
+pub derives-by : {n : ℕ} {s : List ℕ} {f : Factor} {ps : List Part} → Derives n s f ps → (r : Rules) × RuledBy n r × LabelBy r s f ps
 derives-by (Derives.fits d) = (fits-rules, RuledBy.fits, fits-label d)
 derives-by (Derives.ogip d) = (ogip-rules, RuledBy.ogip, ogip-label d)
 derives-by (Derives.cds d) = (cds-rules, RuledBy.cds, cds-label d)
@@ -59,11 +59,21 @@ rules-ruled n r h = go (eqb n 1) (eqb n 2) (eqb n 3) (eqb n 4) refl refl refl re
   where
     at : (m : ℕ) (q : Rules) → n ≡ m → some q ≡ some r → RuledBy m q → RuledBy n r
     at m q e h d = let w : q ≡ r = cc in rw (e, ← w) d
+
     go : (a b c d : Bool) → eqb n 1 ≡ a → eqb n 2 ≡ b → eqb n 3 ≡ c → eqb n 4 ≡ d
-        → elim a as (λ (z : Bool). Option Rules) [ true ↦ some fits-rules | false ↦
-          elim b as (λ (z : Bool). Option Rules) [ true ↦ some ogip-rules | false ↦
-          elim c as (λ (z : Bool). Option Rules) [ true ↦ some cds-rules | false ↦
-          elim d as (λ (z : Bool). Option Rules) [ true ↦ some vounits-rules | false ↦ nothing ] ] ] ] ≡ some r → RuledBy n r
+        → elim a as (λ (z : Bool). Option Rules) [
+          | true ↦ some fits-rules
+          | false ↦
+              elim b as (λ (z : Bool). Option Rules) [
+                | true ↦ some ogip-rules
+                | false ↦
+                    elim c as (λ (z : Bool). Option Rules) [
+                      | true ↦ some cds-rules
+                      | false ↦
+                          elim d as (λ (z : Bool). Option Rules) [ true ↦ some vounits-rules | false ↦ nothing ]
+                    ]
+              ]
+        ] ≡ some r → RuledBy n r
     go true b c d p q o l h = at 1 fits-rules (eqb-true n 1 p) h RuledBy.fits
     go false true c d p q o l h = at 2 ogip-rules (eqb-true n 2 q) h RuledBy.ogip
     go false false true d p q o l h = at 3 cds-rules (eqb-true n 3 o) h RuledBy.cds

@@ -103,8 +103,10 @@ joint-space r {a} f p s w = go (r .spaces) refl
   where
     tail : padded r (a ++ s) ≡ s
     tail = padded-pad r p s (begins-stops w)
+
     behind : joint-at r (32 ∷ a ++ s) s ≡ times s
     behind = let o = opens w in ap (λ (l : List ℕ). joint-at r (32 ∷ a ++ s) l) (o .is) ∙ behind-spaces r (a ++ s) (o .byte) (o .rest) s (o .opener) f tail
+
     go : (b : Bool) → r .spaces ≡ b → joint-at r (32 ∷ a ++ s) (pick b (past is-space (32 ∷ a ++ s)) (32 ∷ a ++ s)) ≡ times s
     go true e = rw (past-of is-space (32 ∷ a) s (pad-all p) (begins-stops w)) behind
     go false e = rw (f, tail)
@@ -232,9 +234,13 @@ spaced-no-over r (c ∷ s) u h = go (eqb c 32 && r .space) h
 between : (r : Rules) (s t u : List ℕ) (c d : ℕ) → padded r s ≡ c ∷ t → c ≡ d → padded r t ≡ u → (a : List ℕ) × (b : List ℕ) × Pad r a × Pad r b × (s ≡ (a ++ d ∷ b) ++ u)
 between r s t u c d p q e =
     let v = padded-sound r s in
-    let w = padded-sound r t in
-    (v .0, w .0, v .1, w .1,
-    v .2 ∙ ap (λ (l : List ℕ). v .0 ++ l) (p ∙ ap (λ (z : ℕ). z ∷ t) q ∙ ap (λ (l : List ℕ). d ∷ l) (w .2 ∙ ap (λ (l : List ℕ). w .0 ++ l) e)) ∙ sym (append-assoc (v .0) (d ∷ w .0) u))
+    let w = padded-sound r t in (
+      v .0,
+      w .0,
+      v .1,
+      w .1,
+      v .2 ∙ ap (λ (l : List ℕ). v .0 ++ l) (p ∙ ap (λ (z : ℕ). z ∷ t) q ∙ ap (λ (l : List ℕ). d ∷ l) (w .2 ∙ ap (λ (l : List ℕ). w .0 ++ l) e)) ∙ sym (append-assoc (v .0) (d ∷ w .0) u),
+    )
 
 joint-at-times : (r : Rules) (s t u : List ℕ) → padded r s ≡ t → joint-at r s t ≡ times u → (j : List ℕ) × TimesBy r j × (s ≡ j ++ u)
 unfolding joint-at
@@ -243,11 +249,14 @@ joint-at-times r s (c ∷ t) u p h = go (eqb c 42) (r .star) (eqb c 46) (r .poin
   where
     stars : eqb c 42 ≡ true → r .star ≡ true → times (padded r t) ≡ times u → (j : List ℕ) × TimesBy r j × (s ≡ j ++ u)
     stars e f h = let w = between r s t u c 42 p (eqb-true c 42 e) (cc) in (w .0 ++ 42 ∷ w .1, TimesBy.star f (w .2) (w .3), w .4)
+
     points : eqb c 46 ≡ true → r .point ≡ true → times (padded r t) ≡ times u → (j : List ℕ) × TimesBy r j × (s ≡ j ++ u)
     points e f h = let w = between r s t u c 46 p (eqb-true c 46 e) (cc) in (w .0 ++ 46 ∷ w .1, TimesBy.point f (w .2) (w .3), w .4)
+
     rest : (z : Bool) → pick z (over (padded r t)) (spaced r s) ≡ times u → (j : List ℕ) × TimesBy r j × (s ≡ j ++ u)
     rest true h = absurd (over-times h)
     rest false h = spaced-sound r s u h
+
     go : (x₁ y₁ x₂ y₂ z : Bool) → eqb c 42 ≡ x₁ → r .star ≡ y₁ → eqb c 46 ≡ x₂ → r .point ≡ y₂
         → pick ((x₁ && y₁) || (x₂ && y₂)) (times (padded r t)) (pick z (over (padded r t)) (spaced r s)) ≡ times u → (j : List ℕ) × TimesBy r j × (s ≡ j ++ u)
     go true true x₂ y₂ z e₁ f₁ e₂ f₂ h = stars e₁ f₁ h

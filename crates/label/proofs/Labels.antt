@@ -287,9 +287,10 @@ label-sound r (c ∷ s) f ps h = go (eqb c 32) (digit c) (eqb c 47) (r .lead) re
   where
     k : ℕ
     k = fuel (c ∷ s)
+
     go : (x y z l : Bool) → eqb c 32 ≡ x → eqb c 47 ≡ z → r .lead ≡ l
         → pick x refused (pick y (factored (λ u. read r k quotient false u) r (factor r (c ∷ s)))
-            (pick (z && l) (ended no-factor (read r k item true s)) (ended no-factor (read r k quotient false (c ∷ s))))) ≡ parsed f ps
+        (pick (z && l) (ended no-factor (read r k item true s)) (ended no-factor (read r k quotient false (c ∷ s))))) ≡ parsed f ps
         → LabelBy r (c ∷ s) f ps
     go true y z l p q e h = absurd (refused-parsed h)
     go false true z l p q e h = factored-sound r k (c ∷ s) f ps h

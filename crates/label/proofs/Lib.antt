@@ -15,3 +15,5 @@ pub mod Instances
 pub mod Widest
 pub mod Derivations
 pub mod Refusals
+pub mod Places
+pub mod Readings

@@ -24,7 +24,7 @@ use Rattle.label.proofs.Derivations.{derived-parsed, parsed-derived, re
 
 -- WHICH CONDITIONS ARE PASSED
 
-bounds : {i n : ℕ} {s : List ℕ} → Condition i n s → (1 ≤ i) × (i ≤ 7)
+pub bounds : {i n : ℕ} {s : List ℕ} → Condition i n s → (1 ≤ i) × (i ≤ 7)
 bounds (one c) = omega arith
 bounds (two c) = omega arith
 bounds (three c) = omega arith
@@ -63,7 +63,7 @@ pub data Outcome (n : ℕ) (s : List ℕ) : Checked → Type 0 where
 pub data Values : List Part → List Placed → Type 0 where
   no-values : Values [] []
   value : {p : Part} {ps : List Part} {us : List Placed} {e : Exponent} → exponent-of (p .turned) (p .power) ≡ some e → Values ps us
-    → Values (p ∷ ps) (record { spelling = p .spelling; exponent = e; left = p .left } ∷ us)
+      → Values (p ∷ ps) (record { spelling = p .spelling; exponent = e; left = p .left } ∷ us)
 
 units-values : (ps : List Part) (us : List Placed) → valued-units ps ≡ some us → Values ps us
 unfolding valued-units valued-unit
@@ -136,7 +136,9 @@ module _ (n : ℕ) (s : List ℕ) where
       go false b p q = Outcome.refusing (record { holds = six (leb-false (deepest s) most-brackets p); earliest = c })
       go true false p q =
           Outcome.refusing (record {
-            holds = seven (f, ps, d, omega (arith, leb-false (length (v .units)) most-terms q, units-parts d e d)); earliest = clear-next c (pass-6 p) })
+            holds = seven (f, ps, d, omega (arith, leb-false (length (v .units)) most-terms q, units-parts d e d));
+            earliest = clear-next c (pass-6 p);
+          })
       go true true p q = Outcome.accepting (clear-all (clear-next (clear-next c (pass-6 p)) (pass-7 d e q))) f ps d e
 
   -- refusal 5

@@ -34,7 +34,8 @@ unit-derived r b s l mid e t w ps d x p q h =
     record {
       parts = part l w (e ++ t) ∷ [];
       derivation = rw z (G.unit d x);
-      signed = sym h ∙ ap (λ (u : List ℕ). record { spelling = l; power = w; turned = b; left = length u } ∷ []) z ∙ sym (by-part b l w (e ++ t)) }
+      signed = sym h ∙ ap (λ (u : List ℕ). record { spelling = l; power = w; turned = b; left = length u } ∷ []) z ∙ sym (by-part b l w (e ++ t));
+    }
 
 unit-sound : (r : Rules) (b : Bool) (s : List ℕ) (ps : List Part) (t : List ℕ) → unit r b s ≡ found ps t → Derived r item b s ps t
 unfolding unit
@@ -79,8 +80,7 @@ module _ (r : Rules) (b : Bool) where
       go false e h = unit-sound r b (c ∷ s) ps t h
 
   module _ (f : Bool → List ℕ → Found (List Part)) (g : Bool → List ℕ → Found (List Part))
-    (fs : (d : Bool) → Sound r item d (f d)) (gs : (d : Bool) → Sound r more d (g d)) where
-
+      (fs : (d : Bool) → Sound r item d (f d)) (gs : (d : Bool) → Sound r more d (g d)) where
     -- an item under the sign d, and what follows it
     record Chain (d : Bool) (s : List ℕ) (ps : List Part) (t : List ℕ) : Type 0 where
       first : List Part
@@ -95,8 +95,14 @@ module _ (r : Rules) (b : Bool) where
         let w = chained-found (f d s) (g b) ps t h in
         let i = fs d s (w .ps₁) (w .mid) (w .one) in
         let m = gs b (w .mid) (w .ps₂) t (w .two) in
-        record { first = i .parts; rest = m .parts; mid = w .mid; an-item = i .derivation; others = m .derivation;
-          signed = sym (w .joined) ∙ ap (λ (l : List Part). l ++ w .ps₂) (i .signed) ∙ ap (λ (l : List Part). by d (i .parts) ++ l) (m .signed) }
+        record {
+          first = i .parts;
+          rest = m .parts;
+          mid = w .mid;
+          an-item = i .derivation;
+          others = m .derivation;
+          signed = sym (w .joined) ∙ ap (λ (l : List Part). l ++ w .ps₂) (i .signed) ∙ ap (λ (l : List Part). by d (i .parts) ++ l) (m .signed);
+        }
 
     plain-signed : (ps qs : List Part) → by b ps ++ by b qs ≡ by b (ps ++ qs)
     plain-signed ps qs = sym (by-append b ps qs)
@@ -110,6 +116,7 @@ module _ (r : Rules) (b : Bool) where
       where
         nothing-more : (ps : List Part) (u : List ℕ) → [] ≡ ps → s ≡ u → Derived r more b s ps u
         nothing-more ps u p q = record { parts = []; derivation = rw q G.done; signed = sym p ∙ sym (by-nil b) }
+
         go : (o : Joint) → joint r s ≡ o → more-at o b f g s ≡ found ps t → Derived r more b s ps t
         go stop e h = nothing-more ps t (cc) (cc)
         go (times u) e h =
@@ -135,7 +142,7 @@ module _ (r : Rules) (b : Bool) where
             rw (j .2) (record { parts = turned-all (w .first) ++ w .rest; derivation = G.under (j .1) (w .an-item) (w .others); signed = w .signed ∙ turned-signed (w .first) (w .rest) })
 
   quotient-sound : (f g : List ℕ → Found (List Part)) → Sound r product b f → Sound r item (not b) g
-    → Sound r quotient b (λ s. then (f s) (λ ps t. quotient-on r g ps t))
+      → Sound r quotient b (λ s. then (f s) (λ ps t. quotient-on r g ps t))
   unfolding quotient-on appended
   quotient-sound f g fs gs s ps t h =
       let v = then-found (f s) _ ps t h in
@@ -146,13 +153,18 @@ module _ (r : Rules) (b : Bool) where
           let p : qs ≡ ps = cc in
           let q : u ≡ t = cc in
           record { parts = i .parts; derivation = rw q at (G.plain (i .derivation)); signed = sym p ∙ i .signed }
+
       under : (qs : List Part) (u : List ℕ) → r .each ≡ false → Derived r product b s qs (47 ∷ u) → mapped (λ rs. qs ++ rs) (g u) ≡ found ps t → Derived r quotient b s ps t
       under qs u e i h =
           let w = mapped-found _ (g u) ps t h in
           let j = gs u (w .value) t (w .one) in
-          record { parts = i .parts ++ turned-all (j .parts); derivation = G.divided e (i .derivation) (j .derivation);
+          record {
+            parts = i .parts ++ turned-all (j .parts);
+            derivation = G.divided e (i .derivation) (j .derivation);
             signed = sym (w .is) ∙ ap (λ (l : List Part). l ++ w .value) (i .signed) ∙ ap (λ (l : List Part). by b (i .parts) ++ l) (j .signed)
-              ∙ ap (λ (l : List Part). by b (i .parts) ++ l) (sym (by-turned b (j .parts))) ∙ sym (by-append b (i .parts) (turned-all (j .parts))) }
+                ∙ ap (λ (l : List Part). by b (i .parts) ++ l) (sym (by-turned b (j .parts))) ∙ sym (by-append b (i .parts) (turned-all (j .parts)));
+          }
+
       go : (qs : List Part) (u : List ℕ) → Derived r product b s qs u → quotient-on r g qs u ≡ found ps t → Derived r quotient b s ps t
       go qs [] i h = alone qs [] i h
       go qs (c ∷ u) i h = at (eqb c 47) (r .each) refl refl h

@@ -13,11 +13,23 @@ use Rattle.label.proofs.General.{SpellingBy, ExponentBy, Pad, TimesBy, 
 -- every rule at once
 abbrev pub all-rules : Rules
 all-rules = record {
-  percent = true; quotes = true;
-  direct = true; brackets = true; stars = true; caret = true;
-  space = true; spaces = true; star = true; point = true;
-  each = true; within = false; lead = false;
-  wrapped = true; signed = true; plain = true }
+  percent = true;
+  quotes = true;
+  direct = true;
+  brackets = true;
+  stars = true;
+  caret = true;
+  space = true;
+  spaces = true;
+  star = true;
+  point = true;
+  each = true;
+  within = false;
+  lead = false;
+  wrapped = true;
+  signed = true;
+  plain = true;
+}
 
 module _ {r : Rules} where
   spelling-wider : {l : List ℕ} → SpellingBy r l → SpellingBy all-rules l

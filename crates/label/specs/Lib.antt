@@ -16,3 +16,4 @@ pub mod Limits
 pub mod Split
 pub mod Reading
 pub mod Conversion
+pub mod Agreement

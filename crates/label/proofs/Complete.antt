@@ -2,19 +2,16 @@
 use Prim.Native.Nat.{ℕ, zero, suc, _+_, _*_, _≤_, _<_}
 use native.Mathlib.Omega.{arith}
 use mathlib.Core.Path.{_≡_, refl, ap, sym, _∙_}
-use mathlib.Core.Bool.{Bool, true, false, _&&_, not}
-use mathlib.Core.List.{List, [], _∷_, _++_, append-assoc, append-nil}
-use mathlib.Core.Option.{Option, none as nothing, some}
-use lib.Dec.{T, eqb}
+use mathlib.Core.Bool.{Bool, false, not}
+use mathlib.Core.List.{List, [], _∷_, _++_, append-assoc}
 use lib.ListN.{length, length-append}
 use Rattle.label.specs.declared.Rules.{Rules}
-use Rattle.label.specs.Bytes.{letter, digit}
-use Rattle.label.specs.Choice.{pick}
-use Rattle.label.specs.Lexical.{Written, Factor, no-factor, Part, part, turned-all, Kind, item, more, product, quotient, Letters, letters, Quoted, quoted, prefixed, PrefixName, Spaces}
-use Rattle.label.specs.Parse.{Found, none, found, then, mapped, byte, closed, exponent, spelling, unit, Joint, stop, times, over, joint, leading, appended, chained, item-at, item-by, more-at, product-at, quotient-on, inside, read}
+use Rattle.label.specs.Bytes.{letter}
+use Rattle.label.specs.Lexical.{Written, Part, part, turned-all, Kind, item, more, product, quotient, Letters, letters, quoted, prefixed}
+use Rattle.label.specs.Parse.{Found, found, then, mapped, byte, closed, unit, stop, times, over, joint, appended, chained, item-at, item-by, more-at, product-at, quotient-on, inside, read}
 use Rattle.label.proofs.Basics.{differs, Ends}
 use Rattle.label.proofs.Signs.{by, by-append, by-nil, by-turned, by-part}
-use Rattle.label.proofs.General.{SpellingBy, ExponentBy, Pad, TimesBy, OverBy, G}
+use Rattle.label.proofs.General.{SpellingBy, ExponentBy, G}
 use Rattle.label.proofs.Joints.{Spells, Begins, times-joint, over-joint, over-leading, begins-leading, end-stops, close-stops, slash-stops, times-ends, over-ends, times-long, over-long}
 use Rattle.label.proofs.LexComplete.{prefix-letters, exponent-complete, exponent-unlettered, spelling-complete}
 

@@ -1,7 +1,7 @@
 -- "At most one split has a known rest": one computed test over the whole tables, and the law that turns it into the rule.
 use Prim.Native.Nat.{ℕ, suc, _≤_}
 use native.Mathlib.Omega.{arith}
-use mathlib.Core.Path.{_≡_, refl, sym, _∙_, ap}
+use mathlib.Core.Path.{_≡_, refl}
 use mathlib.Core.Bool.{Bool, true, false, _&&_, _||_, not}
 use mathlib.Core.List.{List, [], _∷_, _++_}
 use mathlib.Core.Option.{Option, none, some}
@@ -16,7 +16,7 @@ use Rattle.label.specs.Choice.{pick}
 use Rattle.label.specs.Notations.{Notations, everywhere, member, notation}
 use Rattle.label.specs.Prefixes.{Prefix, prefixes}
 use Rattle.label.specs.Units.{Name, KnownUnit, units}
-use Rattle.label.specs.Symbols.{has-name, row-named, unit-named, Cut, follows, cut-by, cuts-from, cuts, KnownCut, known-by, known-among, known-cuts}
+use Rattle.label.specs.Symbols.{has-name, row-named, unit-named, follows, cut-by, cuts-from, cuts, known-by, known-among, known-cuts}
 
 -- THE TEST: a prefix before any known name has one known cut
 

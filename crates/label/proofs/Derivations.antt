@@ -1,14 +1,13 @@
 -- Derivations of labels: the function finds exactly these, a text has one, and notations agree on it.
 use Prim.Native.Nat.{ℕ}
 use native.Mathlib.Omega.{arith}
-use mathlib.Core.Path.{_≡_, refl, ap, sym, _∙_}
+use mathlib.Core.Path.{_≡_, refl, sym, _∙_}
 use mathlib.Core.Bool.{Bool, true, false}
-use mathlib.Core.List.{List, [], _∷_, _++_}
+use mathlib.Core.List.{List}
 use mathlib.Core.Option.{Option, none as nothing, some}
 use lib.Dec.{eqb}
 use borrow.Author.Tests.{eqb-true}
 use Rattle.label.specs.declared.Rules.{Rules}
-use Rattle.label.specs.Notations.{notation, member}
 use Rattle.label.specs.Rules.{fits-rules, ogip-rules, cds-rules, vounits-rules, ruled, rules-among, rules-of}
 use Rattle.label.specs.Lexical.{Factor, Part}
 use Rattle.label.specs.Grammar.{Derives}

@@ -2,7 +2,7 @@
 -- and the instance with every rule holds every notation.
 use Prim.Native.Nat.{ℕ}
 use mathlib.Core.Path.{_≡_}
-use mathlib.Core.Bool.{Bool, true, false}
+use mathlib.Core.Bool.{true, false}
 use mathlib.Core.List.{List, [], _∷_, _++_}
 use Rattle.label.specs.declared.Rules.{Rules}
 use Rattle.label.specs.Bytes.{space as space-byte, percent as percent-byte, open-bracket, close-bracket, star as star-byte, point as point-byte, slash, caret as caret-byte, digit-zero, digit-one}

@@ -1,9 +1,8 @@
 -- Each notation's own grammar is the general grammar with that notation's rules.
 use Prim.Native.Nat.{ℕ}
 use mathlib.Core.Path.{_≡_, refl, sym, _∙_}
-use mathlib.Core.Bool.{Bool, true, false}
+use mathlib.Core.Bool.{true, false}
 use mathlib.Core.List.{List, [], _∷_, _++_}
-use lib.Dec.{eqb}
 use Rattle.label.specs.declared.Rules.{Rules}
 use Rattle.label.specs.Rules.{fits-rules, ogip-rules, cds-rules, vounits-rules}
 use Rattle.label.specs.Lexical.{Numeral, Written, Factor, Part, turned-all, Kind, item, more, product, quotient, Letters, Wrapped, Spaces}
@@ -13,7 +12,7 @@ use Rattle.label.specs.Cds as Cds
 use Rattle.label.specs.Vounits as Vounits
 use Rattle.label.proofs.Basics.{false-true}
 use Rattle.label.proofs.General.{SpellingBy, ExponentBy, Pad, TimesBy, OverBy, G, flat, WrappedBy, FactorBy, GapBy, LabelBy}
-use Rattle.label.proofs.Joints.{Begins, Opens, opens}
+use Rattle.label.proofs.Joints.{opens}
 use Rattle.label.proofs.Labels.{Starts, quotient-starts}
 
 -- WHAT THE NOTATIONS SHARE

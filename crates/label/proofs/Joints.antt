@@ -1,10 +1,9 @@
 -- What stands between units: the texts that join are found by the functions, and what the functions find joins.
 use Prim.Native.Nat.{ℕ, _≤_}
 use mathlib.Core.Path.{_≡_, refl, sym, _∙_, ap}
-use mathlib.Core.Bool.{Bool, true, false, _&&_, _||_, not}
+use mathlib.Core.Bool.{Bool, true, false, _&&_, _||_}
 use mathlib.Core.List.{List, [], _∷_, _++_, append-assoc}
-use mathlib.Core.Option.{Option, none as nothing, some}
-use mathlib.Core.Logic.{_⊎_, inl, inr}
+use mathlib.Core.Option.{none as nothing, some}
 use lib.Dec.{T, eqb}
 use lib.ListN.{length, length-append}
 use native.Mathlib.Omega.{arith}
@@ -12,8 +11,8 @@ use borrow.Author.Tests.{eqb-true}
 use Rattle.label.specs.declared.Rules.{Rules}
 use Rattle.label.specs.Bytes.{letter, all, run, past}
 use Rattle.label.specs.Choice.{pick}
-use Rattle.label.specs.Parse.{Joint, stop, times, over, padded, spaced, joint-at, joint, leading-at, leading}
-use Rattle.label.proofs.Basics.{false-true, none-some, T→true, true→T, both, and-left, and-right, Stops, run-past, run-all, past-of, differs, NoStar, Ends}
+use Rattle.label.specs.Parse.{stop, times, over, padded, spaced, joint-at, joint, leading-at, leading}
+use Rattle.label.proofs.Basics.{false-true, none-some, T→true, both, Stops, run-past, run-all, past-of, differs, NoStar, Ends}
 use Rattle.label.proofs.General.{Pad, TimesBy, OverBy}
 
 -- what begins a spelling

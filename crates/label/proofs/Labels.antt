@@ -1,8 +1,8 @@
 -- The whole label: the reading by rules is the general grammar, sound and complete.
-use Prim.Native.Nat.{ℕ, suc, _+_, _*_, _≤_, _<_}
+use Prim.Native.Nat.{ℕ, suc, _≤_}
 use native.Mathlib.Omega.{arith}
 use mathlib.Core.Path.{_≡_, refl, ap, sym, _∙_}
-use mathlib.Core.Bool.{Bool, true, false, _&&_, not}
+use mathlib.Core.Bool.{Bool, true, false, _&&_}
 use mathlib.Core.List.{List, [], _∷_, _++_, append-assoc}
 use lib.Dec.{T, eqb}
 use lib.ListN.{length, length-append}
@@ -10,16 +10,15 @@ use borrow.Author.Tests.{eqb-true}
 use Rattle.label.specs.declared.Rules.{Rules}
 use Rattle.label.specs.Bytes.{letter, digit, all, run, past}
 use Rattle.label.specs.Choice.{pick}
-use Rattle.label.specs.Lexical.{Factor, no-factor, Part, turned-all, Kind, item, more, product, quotient, Spaces}
+use Rattle.label.specs.Lexical.{Factor, no-factor, Part, turned-all, item, product, quotient, Spaces}
 use Rattle.label.specs.Ogip.{Unspaced, unspaced}
-use Rattle.label.specs.Parse.{Found, none, found, read, factor, sign, Parsed, refused, parsed, ended, one-space, gap, factored, label-by, fuel, parse-by}
+use Rattle.label.specs.Parse.{Found, none, found, read, factor, refused, parsed, ended, one-space, gap, factored, label-by, fuel, parse-by}
 use Rattle.label.proofs.Basics.{false-true, T→true, true→T, both, Stops, run-past, run-all, past-of, differs, letter-no-digit, Ends}
-use Rattle.label.proofs.Signs.{by}
-use Rattle.label.proofs.General.{Pad, TimesBy, OverBy, G, FactorBy, GapBy, LabelBy}
+use Rattle.label.proofs.General.{Pad, OverBy, G, FactorBy, GapBy, LabelBy}
 use Rattle.label.proofs.Joints.{Spells, Begins, is-space, Opens, opens, begins-stops, pad-all}
 use Rattle.label.proofs.LexComplete.{Unfactored, factor-complete, factor-digit}
 use Rattle.label.proofs.LexSound.{factor-sound}
-use Rattle.label.proofs.Complete.{item-begins, Closes, shorter, complete}
+use Rattle.label.proofs.Complete.{item-begins, Closes, complete}
 use Rattle.label.proofs.Sound.{read-sound}
 
 -- HOW A PRODUCT STARTS

@@ -1,5 +1,5 @@
 pub mod Computing
-pub mod Samples
+pub mod SamplesHold
 pub mod Cuts
 pub mod Sizes
 pub mod Basics

@@ -1,12 +1,12 @@
 -- Where spellings stand: in a derivation, each unit's spelling is found where its count of bytes left says.
-use Prim.Native.Nat.{ℕ, _-_, _+_}
+use Prim.Native.Nat.{ℕ, _-_}
 use native.Mathlib.Omega.{arith}
 use mathlib.Core.Path.{_≡_, refl, ap, sym, _∙_}
 use mathlib.Core.List.{List, [], _∷_, _++_, append-assoc}
 use lib.ListN.{length, take, drop, length-append}
 use lib.Seq.{take-at, drop-at}
 use Rattle.label.specs.declared.Rules.{Rules}
-use Rattle.label.specs.Lexical.{Factor, Part, turn, turned-all, Kind}
+use Rattle.label.specs.Lexical.{Factor, Part, turned-all, Kind}
 use Rattle.label.proofs.General.{G, LabelBy}
 
 -- the spelling stands in s, and so many bytes are left from it on

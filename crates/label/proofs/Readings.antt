@@ -1,23 +1,21 @@
 -- What reading answers, from the conditions and the derivations: its number, and what an accepted label's answer holds.
-use Prim.Native.Nat.{ℕ, _-_, _≤_, _<_}
+use Prim.Native.Nat.{ℕ, _≤_, _<_}
 use native.Mathlib.Omega.{arith}
 use native.Mathlib.Decide.{decLt}
 use mathlib.Core.Path.{_≡_, refl, ap, sym, _∙_}
 use mathlib.Core.List.{List, [], _∷_, map}
-use mathlib.Core.Option.{Option, none, some}
+use mathlib.Core.Option.{none, some}
 use mathlib.Core.Logic.{_↔_}
-use lib.ListN.{length, take, drop}
-use Rattle.label.specs.declared.Exponent.{Exponent}
+use lib.ListN.{length}
 use Rattle.label.specs.declared.Tens.{Tens}
 use Rattle.label.specs.Lexical.{Factor, Part}
 use Rattle.label.specs.Grammar.{Derives}
-use Rattle.label.specs.Symbols.{Symbol, symbol}
 use Rattle.label.specs.Split.{Spelled, Split, Placed, Valued, valued, spelled, split-of, Condition, Refused, Accepts}
 use Rattle.label.specs.Reading.{Term, term, Reading, refusal, reading-of, Checked, refuse, accept, checked, answered, reading}
 use Rattle.label.specs.Agreement.{Raised, raised-in, raised-term, bytes-at, Gives}
 use Rattle.label.proofs.Derivations.{same-derivation, derives-by}
 use Rattle.label.proofs.Refusals.{bounds, Values, valued-values, Outcome, outcome}
-use Rattle.label.proofs.Places.{Stands, AllStand, label-stands, stands-there}
+use Rattle.label.proofs.Places.{AllStand, label-stands, stands-there}
 
 -- ONE REFUSAL OR ACCEPTANCE
 

@@ -1,14 +1,14 @@
 -- Refusals 1 to 7: what checking a label answers is what the conditions of document 01 say.
 use Prim.Native.Nat.{ℕ, suc, _≤_, _<_}
 use native.Mathlib.Omega.{arith}
-use native.Mathlib.Decide.{decLe, decLt, ℕ-discrete}
+use native.Mathlib.Decide.{ℕ-discrete}
 use mathlib.Core.Path.{_≡_, refl, ap, sym, _∙_}
 use mathlib.Core.Bool.{Bool, true, false}
-use mathlib.Core.List.{List, [], _∷_, map}
+use mathlib.Core.List.{List, [], _∷_}
 use mathlib.Core.Option.{Option, none, some}
-use lib.Dec.{T, leb, eqb}
+use lib.Dec.{leb}
 use lib.ListN.{length}
-use borrow.Author.Tests.{leb-true, leb-false, le-leb, lt-leb}
+use borrow.Author.Tests.{leb-true, leb-false}
 use Rattle.label.specs.declared.Exponent.{Exponent}
 use Rattle.label.specs.declared.Tens.{Tens}
 use Rattle.label.specs.Bytes.{admitted, all}
@@ -17,10 +17,10 @@ use Rattle.label.specs.Lexical.{Factor, Part}
 use Rattle.label.specs.Grammar.{Derives}
 use Rattle.label.specs.Parse.{Parsed, refused, parsed, parse}
 use Rattle.label.specs.Limits.{most-bytes, most-terms, most-brackets, exponent-of, k-of, deepest}
-use Rattle.label.specs.Split.{Placed, Valued, valued-unit, valued-units, valued-with, valued, Condition1, Condition2, Condition3, Condition4, Condition5, Condition6, Condition7, Condition, one, two, three, four, five, six, seven, Refused, Accepts, split-of, Split}
+use Rattle.label.specs.Split.{Placed, Valued, valued-unit, valued-units, valued-with, valued, Condition, one, two, three, four, five, six, seven, Refused}
 use Rattle.label.specs.Reading.{Checked, refuse, accept, unless, check-counts, check-values, check-grammar, checked}
 use Rattle.label.proofs.Basics.{false-true, none-some}
-use Rattle.label.proofs.Derivations.{derived-parsed, parsed-derived, refused-underived, same-derivation}
+use Rattle.label.proofs.Derivations.{parsed-derived, refused-underived, same-derivation}
 
 -- WHICH CONDITIONS ARE PASSED
 

@@ -1,8 +1,8 @@
 -- Units under a sign: turning twice, and turning of what is joined.
 use Prim.Native.Nat.{ℕ}
-use mathlib.Core.Path.{_≡_, refl, ap, sym, _∙_}
+use mathlib.Core.Path.{_≡_, refl}
 use mathlib.Core.Bool.{Bool, true, false, not, Bool·not-not}
-use mathlib.Core.List.{List, [], _∷_, _++_, map, map-append}
+use mathlib.Core.List.{List, [], _∷_, _++_, map-append}
 use Rattle.label.specs.Lexical.{Written, Part, part, turn, turned-all}
 
 -- the units as they stand under a sign

@@ -4,12 +4,12 @@ use mathlib.Core.Bool.{Bool, true, false, _&&_, _||_, not}
 use mathlib.Core.List.{List, [], _∷_}
 use mathlib.Core.Option.{Option, none, some}
 use lib.Dec.{T, eqb}
-use lib.IntN.{ℤ, pos}
+use lib.IntN.{pos}
 use Rattle.label.proofs.Computing.{answers-compute}
 use Rattle.label.specs.Bytes.{all}
 use Rattle.label.specs.Choice.{pick}
 use Rattle.label.specs.Notations.{everywhere, member}
-use Rattle.label.specs.Units.{BasePower, Size, Name, KnownUnit, units, multiplicity}
+use Rattle.label.specs.Units.{BasePower, Name, KnownUnit, units, multiplicity}
 use Rattle.label.specs.Symbols.{unit-named}
 use Rattle.label.specs.Reading.{all-bases, primes}
 use Rattle.label.specs.Conversion.{same-whole}

@@ -1,20 +1,19 @@
 -- Soundness: what the functions find has a derivation in the general grammar.
 use Prim.Native.Nat.{ℕ, zero, suc}
-use native.Mathlib.Omega.{arith}
 use mathlib.Core.Path.{_≡_, refl, ap, sym, _∙_}
 use mathlib.Core.Bool.{Bool, true, false, _&&_, not}
 use mathlib.Core.List.{List, [], _∷_, _++_}
 use mathlib.Core.Option.{Option, none as nothing, some}
 use lib.Dec.{eqb}
 use lib.ListN.{length}
-use borrow.Author.Tests.{eqb-true, not-true}
+use borrow.Author.Tests.{eqb-true}
 use Rattle.label.specs.declared.Rules.{Rules}
 use Rattle.label.specs.Choice.{pick}
 use Rattle.label.specs.Lexical.{Written, Part, part, turned-all, Kind, item, more, product, quotient}
-use Rattle.label.specs.Parse.{Found, none, found, then, mapped, closed, exponent, spelling, unit, Joint, stop, times, over, joint, leading, appended, chained, item-at, item-by, more-at, product-at, quotient-on, inside, read}
+use Rattle.label.specs.Parse.{Found, found, then, mapped, exponent, spelling, unit, Joint, stop, times, over, joint, leading, appended, chained, item-at, item-by, more-at, product-at, quotient-on, inside, read}
 use Rattle.label.proofs.Basics.{none-found, then-found, mapped-found, closed-found}
 use Rattle.label.proofs.Signs.{by, by-append, by-nil, by-turned, by-part}
-use Rattle.label.proofs.General.{SpellingBy, ExponentBy, TimesBy, OverBy, G}
+use Rattle.label.proofs.General.{SpellingBy, ExponentBy, G}
 use Rattle.label.proofs.Joints.{joint-times, joint-over, leading-over}
 use Rattle.label.proofs.LexSound.{exponent-sound, spelling-sound}
 

@@ -1,13 +1,11 @@
 -- The grammar with every rule holds every notation: what a text is by some rules, it is by all of them.
 use Prim.Native.Nat.{ℕ}
-use mathlib.Core.Path.{_≡_, refl, sym, _∙_}
+use mathlib.Core.Path.{refl}
 use mathlib.Core.Bool.{Bool, true, false}
 use mathlib.Core.List.{List, [], _∷_, _++_, append-assoc, append-nil}
 use Rattle.label.specs.declared.Rules.{Rules}
-use Rattle.label.specs.Lexical.{Numeral, Written, Factor, no-factor, Part, turned-all, Kind, item, more, product, quotient, Spaces}
+use Rattle.label.specs.Lexical.{Numeral, Written, Factor, Part, turned-all, Kind, item, more, product, quotient}
 use Rattle.label.specs.Ogip.{unspaced}
-use Rattle.label.specs.Parse.{inside}
-use Rattle.label.proofs.Basics.{false-true}
 use Rattle.label.proofs.General.{SpellingBy, ExponentBy, Pad, TimesBy, OverBy, G, flat, WrappedBy, FactorBy, GapBy, LabelBy}
 
 -- every rule at once

@@ -1,13 +1,13 @@
 -- What converting from one label to another answers: a number, and the one fraction n/d times ten to the k.
-use Prim.Native.Nat.{ℕ, zero, suc, _*_, _/_, _%_, _^_}
-use mathlib.Core.Bool.{Bool, true, false, _&&_, not}
+use Prim.Native.Nat.{ℕ, suc, _*_, _/_, _%_, _^_}
+use mathlib.Core.Bool.{Bool, true, false, _&&_}
 use mathlib.Core.List.{List, [], _∷_}
 use lib.Dec.{leb, eqb}
 use lib.IntN.{ℤ, pos, negsuc, _-ℤ_, natAbs}
 use Rattle.label.specs.declared.Exponent.{Exponent}
 use Rattle.label.specs.declared.Tens.{Tens}
 use Rattle.label.specs.Limits.{parts-of-one, signed, negative}
-use Rattle.label.specs.Reading.{Reading, reading, primes}
+use Rattle.label.specs.Reading.{Reading, reading}
 
 pub record Conversion : Type 0 where
   pub number : ℕ

@@ -1,5 +1,5 @@
 -- The words that the four grammars share: spellings, integers, decimals, powers, plain factors; and what a label is read into.
-use Prim.Native.Nat.{ℕ, zero, suc}
+use Prim.Native.Nat.{ℕ, suc}
 use mathlib.Core.Bool.{Bool, true, false, not}
 use mathlib.Core.List.{List, [], _∷_, _++_, map}
 use lib.Dec.{T}

@@ -17,3 +17,4 @@ pub mod Split
 pub mod Reading
 pub mod Conversion
 pub mod Agreement
+pub mod Samples

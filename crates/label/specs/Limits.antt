@@ -1,5 +1,5 @@
 -- The numbers that bound a label, and the values of powers and factors within them.
-use Prim.Native.Nat.{ℕ, zero, suc, _+_, _*_, _-_, _/_, _%_, _^_, max, pred}
+use Prim.Native.Nat.{ℕ, suc, _+_, _*_, _-_, _/_, _%_, _^_, max, pred}
 use mathlib.Core.Bool.{Bool, true, false, _&&_, not}
 use mathlib.Core.List.{List, [], _∷_, _++_}
 use mathlib.Core.Option.{Option, none, some}
@@ -10,7 +10,7 @@ use Rattle.label.specs.declared.Exponent.{Exponent}
 use Rattle.label.specs.declared.Tens.{Tens}
 use Rattle.label.specs.Bytes.{open-bracket, close-bracket, digit-zero}
 use Rattle.label.specs.Choice.{pick}
-use Rattle.label.specs.Lexical.{Numeral, Written, unwritten, whole, decimal, fraction, Factor, no-factor, ten-to, zeros}
+use Rattle.label.specs.Lexical.{Written, unwritten, whole, decimal, fraction, Factor, no-factor, ten-to, zeros}
 
 -- "Text: at most 255 bytes. Terms: at most 32. Open brackets at once: at most 8, those of groups and of powers alike."
 abbrev pub most-bytes : ℕ

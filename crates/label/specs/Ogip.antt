@@ -1,7 +1,7 @@
 -- OGIP: its grammar, by the paragraph of document 01 on how OGIP joins units.
 use Prim.Native.Nat.{ℕ}
 use mathlib.Core.Path.{_≡_}
-use mathlib.Core.Bool.{Bool, false}
+use mathlib.Core.Bool.{false}
 use mathlib.Core.List.{List, [], _∷_, _++_}
 use lib.Dec.{eqb}
 use Rattle.label.specs.Bytes.{space as space-byte, open-bracket, close-bracket, star as star-byte, slash, digit-zero, digit-one}

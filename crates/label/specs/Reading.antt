@@ -1,6 +1,6 @@
 -- What reading a label answers: a number, k, the terms, three verdicts, the dimensions and the scale.
 use Prim.Native.Nat.{ℕ, zero, suc, _-_}
-use mathlib.Core.Bool.{Bool, true, false, _&&_, not}
+use mathlib.Core.Bool.{Bool, true, false, _&&_}
 use mathlib.Core.List.{List, [], _∷_, map}
 use mathlib.Core.Option.{Option, none, some}
 use lib.Dec.{leb}
@@ -9,7 +9,6 @@ use lib.ListN.{length}
 use Rattle.label.specs.declared.Exponent.{Exponent}
 use Rattle.label.specs.declared.Tens.{Tens}
 use Rattle.label.specs.Bytes.{admitted, all}
-use Rattle.label.specs.Choice.{pick}
 use Rattle.label.specs.Notations.{notation, member}
 use Rattle.label.specs.Prefixes.{power-of}
 use Rattle.label.specs.Units.{unit-at, base-count, base-power, in-tens, prime-power}

@@ -1,10 +1,9 @@
 -- The split of a text, and when a notation accepts it or refuses it.
-use Prim.Native.Nat.{ℕ, _≤_, _<_}
+use Prim.Native.Nat.{ℕ, _<_}
 use mathlib.Core.Path.{_≡_}
-use mathlib.Core.Bool.{Bool, true, false}
+use mathlib.Core.Bool.{false}
 use mathlib.Core.List.{List, [], _∷_, map}
 use mathlib.Core.Option.{Option, none, some}
-use lib.Dec.{T}
 use lib.ListN.{length}
 use Rattle.label.specs.declared.Exponent.{Exponent}
 use Rattle.label.specs.declared.Tens.{Tens}

@@ -1,5 +1,5 @@
 -- The known units, one row each: names and where they are known, where a prefix is lawful, whether recommended, and the size.
-use Prim.Native.Nat.{ℕ, zero, suc, _+_, _*_, _/_, _%_}
+use Prim.Native.Nat.{ℕ, zero, suc, _/_, _%_}
 use Prim.Native.String.{String}
 use mathlib.Core.Bool.{Bool, true, false}
 use mathlib.Core.List.{List, [], _∷_}
@@ -99,14 +99,14 @@ infix 70 _known_
 abbrev pub _known_ : String → Notations → Name
 s known ns = record { letters = bytes s; known-in = ns }
 
--- a unit that takes prefixes in the notations named, and one that takes none
+-- a unit on which a prefix is lawful in the notations named, and one on which it is lawful nowhere
 abbrev pub prefixed : Notations → List Name → Size → KnownUnit
 prefixed ns xs z = record { names = xs; prefixed-in = ns; recommended = true; size = z }
 
 abbrev pub bare : List Name → Size → KnownUnit
 bare xs z = record { names = xs; prefixed-in = nowhere; recommended = true; size = z }
 
--- "Recommended: known, and no term's unit is angstrom (by any of its names), erg, G or barn." None of these takes a prefix.
+-- "Recommended: known, and no term's unit is angstrom (by any of its names), erg, G or barn." A prefix on these is lawful nowhere.
 abbrev pub discouraged : List Name → Size → KnownUnit
 discouraged xs z = record { names = xs; prefixed-in = nowhere; recommended = false; size = z }
 

@@ -11,12 +11,14 @@ pub struct Rules {
     // Spellings: a percent sign; letters in quotes.
     pub percent: bool,
     pub quotes: bool,
-    // Exponents: an integer directly; a bracketed power directly; two stars and a power; a caret and a power.
+    // Exponents: an integer directly; a bracketed power directly; two stars and a power; a caret and a power. A caret may
+    // then also stand in a factor, in place of its two stars.
     pub direct: bool,
     pub brackets: bool,
     pub stars: bool,
     pub caret: bool,
     // Products: by one space; by any number of spaces, which may also stand around a star or a slash; by a star; by a point.
+    // Where one space joins, one may follow a factor; where any number joins, any number may.
     pub space: bool,
     pub spaces: bool,
     pub star: bool,
@@ -26,7 +28,7 @@ pub struct Rules {
     pub each: bool,
     pub within: bool,
     pub lead: bool,
-    // Factors: an integer in brackets after the stars; 10 and a signed integer; plain 1, 10, 100 and so on.
+    // Factors: 10 to an integer in brackets; 10 and a signed integer; plain 1, 10, 100 and so on.
     pub wrapped: bool,
     pub signed: bool,
     pub plain: bool,

@@ -1,12 +1,11 @@
--- Document 01's samples P1 to P12, as one table under one claim about the definitions.
+-- Document 01's samples P1 to P12: one table of what the definitions answer and what is expected, under one claim.
 use Prim.Native.Nat.{ℕ}
 use Prim.Native.String.{String}
-use mathlib.Core.Path.{_≡_, refl}
+use mathlib.Core.Path.{_≡_}
 use mathlib.Core.Bool.{Bool, true, false}
 use mathlib.Core.List.{List, [], _∷_, map}
 use mathlib.Core.Option.{Option, none, some}
 use lib.IntN.{ℤ, pos}
-use Rattle.label.specs.declared.Tens.{Tens}
 use Rattle.label.specs.Bytes.{bytes}
 use Rattle.label.specs.Notations.{fits, ogip, cds, vounits}
 use Rattle.label.specs.Prefixes.{neg, prefix-named}
@@ -14,7 +13,6 @@ use Rattle.label.specs.Symbols.{Symbol, known, unknown, unit-named}
 use Rattle.label.specs.Limits.{Fraction, lowest-terms}
 use Rattle.label.specs.Reading.{Term, reading}
 use Rattle.label.specs.Conversion.{conversion}
-use Rattle.label.proofs.Computing.{answers-compute}
 
 -- a term: its prefix and unit, and its exponent in lowest terms
 pub record Shown : Type 0 where
@@ -31,16 +29,16 @@ pub record Sample : Type 0 where
   pub actual : Outcome
   pub expected : Outcome
 
-shown : Term → Shown
+abbrev pub shown : Term → Shown
 shown t = record { symbol = t .symbol; exponent = lowest-terms (t .exponent) }
 
-reads : ℕ → String → Outcome → Sample
+abbrev pub reads : ℕ → String → Outcome → Sample
 reads n s x = record {
   actual = read (reading n (bytes s) .number) (reading n (bytes s) .k .0) (map shown (reading n (bytes s) .terms)) (reading n (bytes s) .lawful);
   expected = x;
 }
 
-converts : ℕ → String → ℕ → String → Outcome → Sample
+abbrev pub converts : ℕ → String → ℕ → String → Outcome → Sample
 converts n s m t x = record {
   actual = converted (conversion n (bytes s) m (bytes t) .number) (conversion n (bytes s) m (bytes t) .numerator)
       (conversion n (bytes s) m (bytes t) .denominator) (conversion n (bytes s) m (bytes t) .k .0);
@@ -48,7 +46,7 @@ converts n s m t x = record {
 }
 
 -- a unit of VOUnits by its name there, with a prefix by its name, to a whole power
-unit : String → String → ℤ → Shown
+abbrev pub unit : String → String → ℤ → Shown
 unit p u e = record { symbol = named (unit-named vounits (bytes u)); exponent = record { numerator = e; denominator = 1 } }
   where
     named : Option ℕ → Symbol
@@ -56,16 +54,16 @@ unit p u e = record { symbol = named (unit-named vounits (bytes u)); exponent = 
     named none = unknown none []
 
 -- unknown letters, with a prefix by its name
-letters : String → String → Shown
+abbrev pub letters : String → String → Shown
 letters p l = record { symbol = unknown (prefix-named (bytes p)) (bytes l); exponent = record { numerator = pos 1; denominator = 1 } }
 
-accepted : List Shown → Outcome
+abbrev pub accepted : List Shown → Outcome
 accepted ts = read 0 (pos 0) ts true
 
-refused : ℕ → Outcome
+abbrev pub refused : ℕ → Outcome
 refused i = read i (pos 0) [] false
 
-pub samples : List Sample
+unfoldable pub samples : List Sample
 samples =
     -- P1: empty, all four
     reads fits "" (accepted [])
@@ -96,6 +94,6 @@ samples =
     ∷ converts cds "km/h" cds "m/s" (converted 0 1 36 (pos 1))
     ∷ []
 
-pub samples-hold : map (λ (x : Sample). x .actual) samples ≡ map (λ (x : Sample). x .expected) samples
-unfolding samples shown reads converts unit letters accepted refused answers-compute
-samples-hold = refl
+-- the one claim: each sample's answer is the expected one
+abbrev pub SamplesHold : Type 0
+SamplesHold = map (λ (x : Sample). x .actual) samples ≡ map (λ (x : Sample). x .expected) samples

@@ -1,0 +1,41 @@
+-- The claims, proved: each is a citation.
+use Rattle.label.proofs.SamplesHold.{samples-hold}
+use Rattle.label.proofs.Cuts.{at-most-one}
+use Rattle.label.proofs.Derivations.{derived-parsed, parsed-derived, refused-underived, underived-refused, same-derivation}
+use Rattle.label.proofs.Readings.{number-refused, refused-reading, number-accepted, accepted-gives, same-split}
+use Rattle.label.specs.Samples.{SamplesHold}
+use Rattle.claims.specs.Claims.{ParseIsTheGrammar, ParseRefusesTheRest, Unambiguous, RefusalsAreTheConditions, RefusalsAreEmpty, ZeroIsAcceptance, AcceptedContent, AtMostOneKnownRest, GrammarsAgree, NotationsAgree}
+
+pub parse-is-the-grammar : ParseIsTheGrammar
+parse-is-the-grammar n s f ps = ((λ h. parsed-derived n s f ps h), (λ d. derived-parsed d))
+
+pub parse-refuses-the-rest : ParseRefusesTheRest
+parse-refuses-the-rest n s = ((λ h. refused-underived n s h), (λ h. underived-refused n s h))
+
+pub unambiguous : Unambiguous
+unambiguous n s f g ps qs d e = same-derivation d e
+
+pub refusals-are-the-conditions : RefusalsAreTheConditions
+refusals-are-the-conditions n s i l = number-refused n s i l
+
+pub refusals-are-empty : RefusalsAreEmpty
+refusals-are-empty n s i d = refused-reading d
+
+pub zero-is-acceptance : ZeroIsAcceptance
+zero-is-acceptance n s = number-accepted n s
+
+pub accepted-content : AcceptedContent
+accepted-content n s x a = accepted-gives a
+
+pub at-most-one-known-rest : AtMostOneKnownRest
+at-most-one-known-rest n e l = at-most-one n e l
+
+pub grammars-agree : GrammarsAgree
+grammars-agree n m s f g ps qs d e = same-derivation d e
+
+pub notations-agree : NotationsAgree
+notations-agree n m s x y a b = (same-split a b, accepted-gives a, rw (same-split a b) (accepted-gives b))
+
+-- P1 to P12: one table, one claim (the crate label, specs/Samples.antt)
+pub samples : SamplesHold
+samples = samples-hold

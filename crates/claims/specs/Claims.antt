@@ -1,0 +1,64 @@
+-- The page of claims. Each is stated here, in the words of the crate label's specs/, and proved in proofs/Proved.antt.
+use Prim.Native.Nat.{ℕ, _≤_}
+use mathlib.Core.Path.{_≡_}
+use mathlib.Core.Bool.{true}
+use mathlib.Core.List.{List}
+use mathlib.Core.Logic.{_↔_}
+use lib.ListN.{length}
+use Rattle.label.specs.Notations.{notation}
+use Rattle.label.specs.Symbols.{known-cuts}
+use Rattle.label.specs.Lexical.{Factor, Part}
+use Rattle.label.specs.Grammar.{Derives}
+use Rattle.label.specs.Parse.{refused, parsed, parse}
+use Rattle.label.specs.Split.{Split, Refused, Accepts}
+use Rattle.label.specs.Reading.{refusal, reading}
+use Rattle.label.specs.Agreement.{Gives}
+
+-- DEMAND 2, READING
+
+-- Sound and complete: `parse n s` finds the factor f and the units ps exactly where the grammar of notation n derives s with them.
+abbrev pub ParseIsTheGrammar : Type 0
+ParseIsTheGrammar = (n : ℕ) (s : List ℕ) (f : Factor) (ps : List Part) → (parse n s ≡ parsed f ps) ↔ Derives n s f ps
+
+-- It finds nothing exactly where no derivation exists.
+abbrev pub ParseRefusesTheRest : Type 0
+ParseRefusesTheRest = (n : ℕ) (s : List ℕ) → (parse n s ≡ refused) ↔ ((f : Factor) (ps : List Part) → Derives n s f ps → ⊥)
+
+-- Unambiguous: two derivations of one text in one notation have the same factor and the same units.
+abbrev pub Unambiguous : Type 0
+Unambiguous = (n : ℕ) (s : List ℕ) (f g : Factor) (ps qs : List Part) → Derives n s f ps → Derives n s g qs → (f ≡ g) × (ps ≡ qs)
+
+-- A refusal's number is given exactly when its condition holds and no earlier one does.
+abbrev pub RefusalsAreTheConditions : Type 0
+RefusalsAreTheConditions = (n : ℕ) (s : List ℕ) (i : ℕ) → 1 ≤ i → (reading n s .number ≡ i) ↔ Refused i n s
+
+-- A refused reading is empty.
+abbrev pub RefusalsAreEmpty : Type 0
+RefusalsAreEmpty = (n : ℕ) (s : List ℕ) (i : ℕ) → Refused i n s → reading n s ≡ refusal i
+
+-- 0 is answered exactly when the notation accepts the text.
+abbrev pub ZeroIsAcceptance : Type 0
+ZeroIsAcceptance = (n : ℕ) (s : List ℕ) → (reading n s .number ≡ 0) ↔ ((x : Split) × Accepts n s x)
+
+-- Then the reading has exactly the split's content, with the notation's own symbols, and each term stands where its spelling does.
+abbrev pub AcceptedContent : Type 0
+AcceptedContent = (n : ℕ) (s : List ℕ) (x : Split) → Accepts n s x → Gives n s x (reading n s)
+
+-- "At most one split has a known rest."
+abbrev pub AtMostOneKnownRest : Type 0
+AtMostOneKnownRest = (n : ℕ) → notation n ≡ true → (l : List ℕ) → length (known-cuts n l) ≤ 1
+
+-- DEMAND 3
+
+-- Whatever two notations both derive, they derive with the same factor and the same units: spellings, powers, turns and places.
+abbrev pub GrammarsAgree : Type 0
+GrammarsAgree = (n m : ℕ) (s : List ℕ) (f g : Factor) (ps qs : List Part) → Derives n s f ps → Derives m s g qs → (f ≡ g) × (ps ≡ qs)
+
+-- "if both accept the text, the two splits are equal, and reading it in either answers 0, with the split's k and one term for each of its
+-- spellings, in that order, with that exponent and with the prefix and unit that the symbol rules of that notation give the spelling"
+abbrev pub NotationsAgree : Type 0
+NotationsAgree =
+    (n m : ℕ) (s : List ℕ) (x y : Split)
+    → Accepts n s x
+    → Accepts m s y
+    → (x ≡ y) × Gives n s x (reading n s) × Gives m s x (reading m s)

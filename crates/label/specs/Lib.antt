@@ -18,3 +18,4 @@ pub mod Reading
 pub mod Conversion
 pub mod Agreement
 pub mod Samples
+pub mod Ranges

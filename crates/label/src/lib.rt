@@ -33,3 +33,30 @@ pub struct Rules {
     pub signed: bool,
     pub plain: bool,
 }
+
+// Digits of a label: the bytes from `start` up to `end`.
+pub struct Digits {
+    pub start: usize,
+    pub end: usize,
+}
+
+// An integer of a label: its sign and its digits.
+pub struct SignedDigits {
+    pub negative: bool,
+    pub digits: Digits,
+}
+
+// A power as written in a label.
+pub enum WrittenPower {
+    Unwritten,
+    Whole(SignedDigits),
+    Decimal(SignedDigits, Digits),
+    Fraction(SignedDigits, Digits),
+}
+
+// A factor as written in a label: none, ten to an integer, or 1 and a number of zeros.
+pub enum WrittenFactor {
+    Absent,
+    TenTo(SignedDigits),
+    Zeros(usize),
+}

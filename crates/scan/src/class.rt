@@ -1,0 +1,55 @@
+// Classes of bytes.
+ghost use mathlib.Core.Path.{_≡_};
+ghost use mathlib.Core.Bool.{_&&_};
+ghost use Rattle.label.specs.Parse.{sign};
+ghost use Rattle.label.specs.Bytes.{within, letter, digit, nonzero};
+
+// Both, as one flag whose value the contract gives.
+pub fn both(a: bool, b: bool) -> bool
+    ensures { λ r. ⌜ r ≡ (a && b) ⌝ }
+{
+    if a {
+        return b;
+    }
+    false
+}
+
+pub fn between(c: u8, low: u8, high: u8) -> bool
+    ensures { λ r. ⌜ r ≡ within low high c ⌝ }
+{
+    if c < low {
+        return false;
+    }
+    c <= high
+}
+
+pub fn is_letter(c: u8) -> bool
+    ensures { λ r. ⌜ r ≡ letter c ⌝ }
+{
+    if between(c, 65, 90) {
+        return true;
+    }
+    between(c, 97, 122)
+}
+
+pub fn is_digit(c: u8) -> bool
+    ensures { λ r. ⌜ r ≡ digit c ⌝ }
+{
+    between(c, 48, 57)
+}
+
+pub fn is_nonzero(c: u8) -> bool
+    ensures { λ r. ⌜ r ≡ nonzero c ⌝ }
+{
+    between(c, 49, 57)
+}
+
+// A plus or a minus.
+pub fn is_sign(c: u8) -> bool
+    ensures { λ r. ⌜ r ≡ sign c ⌝ }
+{
+    if c == 43 {
+        return true;
+    }
+    c == 45
+}

@@ -3,12 +3,12 @@ use Prim.Native.Nat.{ℕ, suc, _≤_, _<_, _-_, _+_}
 use native.Mathlib.Omega.{arith}
 use native.Mathlib.Nat.{sub-self}
 use native.Mathlib.Numerals.{add-one}
-use mathlib.Core.Path.{_≡_, refl, sym, ap, _∙_}
+use mathlib.Core.Path.{_≡_, refl}
 use mathlib.Core.Bool.{Bool, true, false}
 use mathlib.Core.List.{List, [], _∷_, _++_, append-assoc, append-nil}
 use lib.ListN.{length, take, drop, getD, drop-of-length-le, length-drop}
-use lib.Seq.{drop-cons, take-suc, getD-drop, drop-drop}
-use Rattle.label.specs.Bytes.{run-on, run as run-of, past-on, past}
+use lib.Seq.{drop-cons, take-suc, getD-drop}
+use Rattle.label.specs.Bytes.{run as run-of, past}
 use Rattle.scan.specs.Runs.{Run}
 
 -- the scan has passed from `at` to i, and what is left to scan is the same run's rest

@@ -1,0 +1,31 @@
+use native.Mathlib.Omega.{arith}
+use Rattle.tokens.proofs.FactorSteps.{plain₁, plain₂, zeros-room}
+use borrow.Author.Needs.{needs}
+use Rattle.tokens.proofs.factor.plain_factor.Statement.{statement}
+use Rattle.tokens.proofs.factor.plain_factor.Tie as tie
+use Rattle.tokens.proofs.factor.plain_factor.Reads as reads
+use Rattle.tokens.proofs.factor.plain_factor.Lts as lts
+use Rattle.scan.proofs.class.both.Reads as both-reads
+use Rattle.tokens.proofs.factor.is_plain.Reads as is-plain-reads
+
+is-plain-requires : tie.Need-is-plain-requires
+is-plain-requires c κs = search needs
+
+both-requires : tie.Need-both-requires
+both-requires c κs = search needs
+
+sub-t7 : tie.Need-sub-t7
+sub-t7 c = search needs
+
+sub-t8 : tie.Need-sub-t8
+sub-t8 c = let a = c .before .before .before .before .args in zeros-room (a .s .now) (a .start) (a .end) (a .r .plain) (c .before .both .ensures) (c .before .before .is-plain .ensures) (c .if1 .taken) .1
+
+returns : tie.Need-returns
+returns c = search (plain₁, arith)
+
+returns-2 : tie.Need-returns-2
+returns-2 c = search (plain₂, arith)
+
+pub plain-factor-spec : {M : Type 1} → statement M
+plain-factor-spec =
+    tie.close (tie.spec is-plain-requires both-requires sub-t7 sub-t8 returns returns-2)

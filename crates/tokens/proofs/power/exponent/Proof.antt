@@ -1,0 +1,95 @@
+use native.Mathlib.Omega.{arith}
+use Rattle.tokens.proofs.PowerSteps.{exponent₁, exponent₂, exponent₃, exponent₄, exponent₅, exponent₆}
+use borrow.Author.Needs.{needs}
+use Rattle.tokens.proofs.power.exponent.Statement.{statement}
+use Rattle.tokens.proofs.power.exponent.Tie as tie
+use Rattle.tokens.proofs.power.exponent.Reads as reads
+use Rattle.tokens.proofs.power.exponent.Lts as lts
+use Rattle.scan.proofs.class.both.Reads as both-reads
+use Rattle.tokens.proofs.number.integer.Reads as integer-reads
+use Rattle.tokens.proofs.power.bracketed.Reads as bracketed-reads
+use Rattle.tokens.proofs.power.power.Reads as power-reads
+use Rattle.tokens.proofs.power.starred.Reads as starred-reads
+use Rattle.tokens.proofs.power.starts_integer.Reads as starts-integer-reads
+use Rattle.tokens.proofs.power.whole.Reads as whole-reads
+
+returns : tie.Need-returns
+returns c = search (exponent₁, arith)
+
+shared-slice-read-c : tie.Need-shared-slice-read-c
+shared-slice-read-c c = search needs
+
+starts-integer-requires : tie.Need-starts-integer-requires
+starts-integer-requires c κs = search needs
+
+both-requires : tie.Need-both-requires
+both-requires c κs = search needs
+
+integer-requires : tie.Need-integer-requires
+integer-requires c κs = search needs
+
+whole-requires : tie.Need-whole-requires
+whole-requires c κs = search needs
+
+returns-2 : tie.Need-returns-2
+returns-2 c = exponent₂ (omega arith) (cc) (c .before .integer .ensures) (c .whole .ensures)
+
+both-requires-2 : tie.Need-both-requires-2
+both-requires-2 c κs = search needs
+
+add-bracketed : tie.Need-add-bracketed
+add-bracketed c = search needs
+
+bracketed-requires : tie.Need-bracketed-requires
+bracketed-requires c κs = search needs
+
+returns-3 : tie.Need-returns-3
+returns-3 c = exponent₃ (omega arith) (cc) (cc) (search)
+
+both-requires-3 : tie.Need-both-requires-3
+both-requires-3 c κs = search needs
+
+add-power : tie.Need-add-power
+add-power c = search needs
+
+power-requires : tie.Need-power-requires
+power-requires c κs = search needs
+
+returns-4 : tie.Need-returns-4
+returns-4 c = exponent₄ (omega arith) (cc) (cc) (cc) (search)
+
+both-requires-4 : tie.Need-both-requires-4
+both-requires-4 c κs = search needs
+
+starred-requires : tie.Need-starred-requires
+starred-requires c κs = search needs
+
+returns-5 : tie.Need-returns-5
+returns-5 c = exponent₅ (omega arith) (cc) (cc) (cc) (cc) (search)
+
+returns-6 : tie.Need-returns-6
+returns-6 c = exponent₆ (omega arith) (cc) (cc) (cc) (cc)
+
+pub exponent-spec : {M : Type 1} → statement M
+exponent-spec =
+    tie.close
+    (tie.spec
+    returns
+    shared-slice-read-c
+    starts-integer-requires
+    both-requires
+    integer-requires
+    whole-requires
+    returns-2
+    both-requires-2
+    add-bracketed
+    bracketed-requires
+    returns-3
+    both-requires-3
+    add-power
+    power-requires
+    returns-4
+    both-requires-4
+    starred-requires
+    returns-5
+    returns-6)

@@ -1,0 +1,187 @@
+// Factors.
+use crate::number::IntegerAt;
+use crate::number::integer;
+use crate::power::closes;
+use label::Rules;
+use label::WrittenFactor;
+use scan::class::both;
+use scan::class::is_sign;
+use scan::run::digits;
+use scan::run::zeros;
+ghost use Prim.Native.Nat.{_≤_};
+ghost use mathlib.Core.Path.{_≡_};
+ghost use lib.ListN.{length};
+ghost use Rattle.label.specs.Parse.{plain-digits, ten};
+ghost use Rattle.label.specs.Ranges.{between, Inside};
+ghost use Rattle.tokens.specs.Answers.{Tens, ClosesTens, ReadsWrapped, ReadsStarred, ReadsPlain, ReadsTen};
+ghost use Rattle.tokens.specs.Answers.{ReadsFactorBy};
+
+// A factor from a place on, up to `next`, or none where `ok` is false.
+pub struct FactorAt {
+    pub ok: bool,
+    pub next: usize,
+    pub factor: WrittenFactor,
+}
+
+// Whether the bytes from `start` up to `end` are 1 and zeros.
+pub fn is_plain(s: &[u8], start: usize, end: usize) -> bool
+    requires { ⌜ start ≤ end ⌝ }
+    requires { ⌜ end ≤ length (now s) ⌝ }
+    ensures { λ r. ⌜ r ≡ plain-digits (between (now (s .entry)) start end) ⌝ }
+{
+    if end <= start {
+        return false;
+    }
+    if s[start] != 49 {
+        return false;
+    }
+    end <= zeros(s, start + 1)
+}
+
+// The digits from `start` up to `end` as 1 and zeros.
+pub fn plain_factor(r: Rules, s: &[u8], start: usize, end: usize) -> FactorAt
+    requires { ⌜ start ≤ end ⌝ }
+    requires { ⌜ end ≤ length (now s) ⌝ }
+    ensures { λ o. ⌜ ReadsPlain r (now (s .entry)) start end o ⌝ }
+{
+    if both(is_plain(s, start, end), r.plain) {
+        return FactorAt {
+            ok: true,
+            next: end,
+            factor: WrittenFactor::Zeros(end - start - 1),
+        };
+    }
+    FactorAt {
+        ok: false,
+        next: end,
+        factor: WrittenFactor::Absent,
+    }
+}
+
+// An integer as a power of ten.
+pub fn tens(i: IntegerAt) -> FactorAt
+    ensures { λ o. ⌜ Tens i o ⌝ }
+{
+    let n = i.integer;
+    let d = n.digits;
+    FactorAt {
+        ok: i.ok,
+        next: d.end,
+        factor: WrittenFactor::TenTo(n),
+    }
+}
+
+// An integer as a power of ten, and the closing bracket.
+pub fn closed_tens(s: &[u8], i: IntegerAt) -> FactorAt
+    requires { ⌜ Inside (now s) (i .integer .digits) ⌝ }
+    ensures { λ o. ⌜ ClosesTens (now (s .entry)) i o ⌝ }
+{
+    let n = i.integer;
+    let d = n.digits;
+    let end = d.end;
+    if !i.ok {
+        return FactorAt {
+            ok: false,
+            next: end,
+            factor: WrittenFactor::Absent,
+        };
+    }
+    if closes(s, end) {
+        return FactorAt {
+            ok: true,
+            next: end + 1,
+            factor: WrittenFactor::TenTo(n),
+        };
+    }
+    FactorAt {
+        ok: false,
+        next: end,
+        factor: WrittenFactor::Absent,
+    }
+}
+
+// An integer, bare or in brackets.
+pub fn wrapped(r: Rules, s: &[u8], at: usize) -> FactorAt
+    requires { ⌜ at ≤ length (now s) ⌝ }
+    ensures { λ o. ⌜ ReadsWrapped r (now (s .entry)) at o ⌝ }
+{
+    if s.len() <= at {
+        return FactorAt {
+            ok: false,
+            next: at,
+            factor: WrittenFactor::Absent,
+        };
+    }
+    if both(s[at] == 40, r.wrapped) {
+        return closed_tens(s, integer(s, at + 1));
+    }
+    tens(integer(s, at))
+}
+
+// From behind the first of two stars.
+pub fn starred_factor(r: Rules, s: &[u8], at: usize) -> FactorAt
+    requires { ⌜ at ≤ length (now s) ⌝ }
+    ensures { λ o. ⌜ ReadsStarred r (now (s .entry)) at o ⌝ }
+{
+    if s.len() <= at {
+        return FactorAt {
+            ok: false,
+            next: at,
+            factor: WrittenFactor::Absent,
+        };
+    }
+    if s[at] == 42 {
+        return wrapped(r, s, at + 1);
+    }
+    FactorAt {
+        ok: false,
+        next: at,
+        factor: WrittenFactor::Absent,
+    }
+}
+
+// What follows the digits 10, which stand from `start` up to `end`.
+pub fn ten_factor(r: Rules, s: &[u8], start: usize, end: usize) -> FactorAt
+    requires { ⌜ start ≤ end ⌝ }
+    requires { ⌜ end ≤ length (now s) ⌝ }
+    ensures { λ o. ⌜ ReadsTen r (now (s .entry)) start end o ⌝ }
+{
+    if s.len() <= end {
+        return plain_factor(r, s, start, end);
+    }
+    let c = s[end];
+    if both(is_sign(c), r.signed) {
+        return tens(integer(s, end));
+    }
+    if both(c == 94, r.caret) {
+        return wrapped(r, s, end + 1);
+    }
+    if c == 42 {
+        return starred_factor(r, s, end + 1);
+    }
+    plain_factor(r, s, start, end)
+}
+
+// Whether the bytes from `start` up to `end` are the digits 10.
+pub fn is_ten(s: &[u8], start: usize, end: usize) -> bool
+    requires { ⌜ start ≤ end ⌝ }
+    requires { ⌜ end ≤ length (now s) ⌝ }
+    ensures { λ r. ⌜ r ≡ ten (between (now (s .entry)) start end) ⌝ }
+{
+    if end - start != 2 {
+        return false;
+    }
+    both(s[start] == 49, s[start + 1] == 48)
+}
+
+// The factor that a digit at `at` begins.
+pub fn factor(r: Rules, s: &[u8], at: usize) -> FactorAt
+    requires { ⌜ at ≤ length (now s) ⌝ }
+    ensures { λ o. ⌜ ReadsFactorBy r (now (s .entry)) at o ⌝ }
+{
+    let end = digits(s, at);
+    if is_ten(s, at, end) {
+        return ten_factor(r, s, at, end);
+    }
+    plain_factor(r, s, at, end)
+}

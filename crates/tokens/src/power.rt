@@ -1,0 +1,245 @@
+// Powers.
+use crate::number::DigitsAt;
+use crate::number::IntegerAt;
+use crate::number::integer;
+use crate::number::some_digits;
+use crate::number::unsigned;
+use label::Digits;
+use label::Rules;
+use label::SignedDigits;
+use label::WrittenPower;
+use scan::class::both;
+use scan::class::is_digit;
+use scan::class::is_sign;
+ghost use Prim.Native.Nat.{_≤_, _<_};
+ghost use mathlib.Core.Path.{_≡_};
+ghost use mathlib.Core.Bool.{_||_};
+ghost use lib.ListN.{length, drop};
+ghost use Rattle.label.specs.Bytes.{digit};
+ghost use Rattle.label.specs.Parse.{sign, bracketed, power};
+ghost use Rattle.label.specs.Ranges.{Inside};
+ghost use Rattle.tokens.specs.Answers.{begins, ReadsPower, ClosesDecimal, ClosesFraction, ReadsOn, Powers, StarredFrom, ReadsExponent};
+
+// A power from a place on, up to `next`, or none where `ok` is false.
+pub struct PowerAt {
+    pub ok: bool,
+    pub next: usize,
+    pub power: WrittenPower,
+}
+
+// Whether a closing bracket stands at `at`.
+pub fn closes(s: &[u8], at: usize) -> bool
+    requires { ⌜ at ≤ length (now s) ⌝ }
+    ensures { λ r. ⌜ r ≡ begins 41 (drop at (now (s .entry))) ⌝ }
+{
+    if s.len() <= at {
+        return false;
+    }
+    s[at] == 41
+}
+
+// The digits behind a point, and the closing bracket.
+pub fn closed_decimal(s: &[u8], n: SignedDigits, d: DigitsAt) -> PowerAt
+    requires { ⌜ Inside (now s) (n .digits) ⌝ }
+    requires { ⌜ Inside (now s) (d .digits) ⌝ }
+    ensures { λ o. ⌜ ClosesDecimal (now (s .entry)) n d o ⌝ }
+{
+    let digits = d.digits;
+    let end = digits.end;
+    if !d.ok {
+        return PowerAt {
+            ok: false,
+            next: end,
+            power: WrittenPower::Unwritten,
+        };
+    }
+    if closes(s, end) {
+        return PowerAt {
+            ok: true,
+            next: end + 1,
+            power: WrittenPower::Decimal(n, digits),
+        };
+    }
+    PowerAt {
+        ok: false,
+        next: end,
+        power: WrittenPower::Unwritten,
+    }
+}
+
+// The digits behind a slash, and the closing bracket.
+pub fn closed_fraction(s: &[u8], n: SignedDigits, d: DigitsAt) -> PowerAt
+    requires { ⌜ Inside (now s) (n .digits) ⌝ }
+    requires { ⌜ Inside (now s) (d .digits) ⌝ }
+    ensures { λ o. ⌜ ClosesFraction (now (s .entry)) n d o ⌝ }
+{
+    let digits = d.digits;
+    let end = digits.end;
+    if !d.ok {
+        return PowerAt {
+            ok: false,
+            next: end,
+            power: WrittenPower::Unwritten,
+        };
+    }
+    if closes(s, end) {
+        return PowerAt {
+            ok: true,
+            next: end + 1,
+            power: WrittenPower::Fraction(n, digits),
+        };
+    }
+    PowerAt {
+        ok: false,
+        next: end,
+        power: WrittenPower::Unwritten,
+    }
+}
+
+// What follows the integer of a power in brackets.
+pub fn bracketed_on(s: &[u8], n: SignedDigits, at: usize) -> PowerAt
+    requires { ⌜ at ≤ length (now s) ⌝ }
+    requires { ⌜ Inside (now s) (n .digits) ⌝ }
+    ensures { λ o. ⌜ ReadsOn (now (s .entry)) n at o ⌝ }
+{
+    if s.len() <= at {
+        return PowerAt {
+            ok: false,
+            next: at,
+            power: WrittenPower::Unwritten,
+        };
+    }
+    let c = s[at];
+    if c == 41 {
+        return PowerAt {
+            ok: true,
+            next: at + 1,
+            power: WrittenPower::Whole(n),
+        };
+    }
+    if c == 46 {
+        return closed_decimal(s, n, some_digits(s, at + 1));
+    }
+    if c == 47 {
+        return closed_fraction(s, n, unsigned(s, at + 1));
+    }
+    PowerAt {
+        ok: false,
+        next: at,
+        power: WrittenPower::Unwritten,
+    }
+}
+
+// A power in brackets, from behind the opening one.
+pub fn bracketed(s: &[u8], at: usize) -> PowerAt
+    requires { ⌜ at ≤ length (now s) ⌝ }
+    ensures { λ o. ⌜ ReadsPower bracketed (now (s .entry)) at o ⌝ }
+{
+    let i = integer(s, at);
+    if !i.ok {
+        return PowerAt {
+            ok: false,
+            next: at,
+            power: WrittenPower::Unwritten,
+        };
+    }
+    let n = i.integer;
+    let d = n.digits;
+    bracketed_on(s, n, d.end)
+}
+
+// An integer as a power.
+pub fn whole(i: IntegerAt) -> PowerAt
+    ensures { λ o. ⌜ Powers i o ⌝ }
+{
+    let n = i.integer;
+    let d = n.digits;
+    PowerAt {
+        ok: i.ok,
+        next: d.end,
+        power: WrittenPower::Whole(n),
+    }
+}
+
+// An integer, or a power in brackets.
+pub fn power(s: &[u8], at: usize) -> PowerAt
+    requires { ⌜ at ≤ length (now s) ⌝ }
+    ensures { λ o. ⌜ ReadsPower power (now (s .entry)) at o ⌝ }
+{
+    if s.len() <= at {
+        return PowerAt {
+            ok: false,
+            next: at,
+            power: WrittenPower::Unwritten,
+        };
+    }
+    if s[at] == 40 {
+        return bracketed(s, at + 1);
+    }
+    whole(integer(s, at))
+}
+
+// Two stars and a power, or no power. A star stands at `at`.
+pub fn starred(s: &[u8], at: usize) -> PowerAt
+    requires { ⌜ at < length (now s) ⌝ }
+    ensures { λ o. ⌜ StarredFrom (now (s .entry)) at o ⌝ }
+{
+    let second = at + 1;
+    if s.len() <= second {
+        return PowerAt {
+            ok: true,
+            next: at,
+            power: WrittenPower::Unwritten,
+        };
+    }
+    if s[second] == 42 {
+        return power(s, second + 1);
+    }
+    PowerAt {
+        ok: true,
+        next: at,
+        power: WrittenPower::Unwritten,
+    }
+}
+
+// A sign or a digit.
+pub fn starts_integer(c: u8) -> bool
+    ensures { λ r. ⌜ r ≡ (sign c || digit c) ⌝ }
+{
+    if is_sign(c) {
+        return true;
+    }
+    is_digit(c)
+}
+
+// The power after a spelling, if any.
+pub fn exponent(r: Rules, s: &[u8], at: usize) -> PowerAt
+    requires { ⌜ at ≤ length (now s) ⌝ }
+    ensures { λ o. ⌜ ReadsExponent r (now (s .entry)) at o ⌝ }
+{
+    if s.len() <= at {
+        return PowerAt {
+            ok: true,
+            next: at,
+            power: WrittenPower::Unwritten,
+        };
+    }
+    let c = s[at];
+    if both(starts_integer(c), r.direct) {
+        return whole(integer(s, at));
+    }
+    if both(c == 40, r.brackets) {
+        return bracketed(s, at + 1);
+    }
+    if both(c == 94, r.caret) {
+        return power(s, at + 1);
+    }
+    if both(c == 42, r.stars) {
+        return starred(s, at);
+    }
+    PowerAt {
+        ok: true,
+        next: at,
+        power: WrittenPower::Unwritten,
+    }
+}

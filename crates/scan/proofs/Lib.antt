@@ -1,1 +1,4 @@
+pub mod Slices
 pub mod Scanning
+pub mod PrefixNames
+pub mod Spellings

@@ -20,7 +20,7 @@ use Rattle.tokens.specs.declared.number.IntegerAt.{IntegerAt}
 use Rattle.tokens.specs.declared.factor.FactorAt.{FactorAt}
 use Rattle.tokens.specs.Answers.{ReadsInteger, begins, ReadsFactor, Tens, ClosesTens, ReadsWrapped, ReadsStarred, ReadsPlain, ReadsTen, ReadsFactorBy}
 use Rattle.label.proofs.Basics.{and-left}
-use Rattle.tokens.proofs.Parts.{here, past as past-end, part-cons}
+use Rattle.scan.proofs.Slices.{here, beyond, length-between, between-cons}
 use Rattle.tokens.proofs.Numbers.{mapped-by}
 use Rattle.tokens.proofs.PowerSteps.{byte-no-close, begins-room, close-found}
 
@@ -65,11 +65,11 @@ module _ (s : List ℕ) (a e : ℕ) where
 
   pub plain-other : a < e → e ≤ length s → (getD s a 0 ≡ 49 → ⊥) → false ≡ plain-digits (between s a e)
   unfolding plain-digits
-  plain-other h g n = rw (part-cons s a e h g, ne-eqb _ _ n)
+  plain-other h g n = rw (between-cons s a e h g, ne-eqb _ _ n)
 
   pub plain-run : (z : ℕ) → a < e → e ≤ length s → getD s a 0 ≡ 49 → Run is-zero s (a + 1) z → leb e z ≡ plain-digits (between s a e)
   unfolding plain-digits
-  plain-run z h g n w = rw (part-cons s a e h g, n) (sym (all-between is-zero s (a + 1) e z (omega arith) g w))
+  plain-run z h g n w = rw (between-cons s a e h g, n) (sym (all-between is-zero s (a + 1) e z (omega arith) g w))
 
   plain-nonempty : plain-digits (between s a e) ≡ true → a < e
   plain-nonempty p = go (decLt a e)
@@ -77,9 +77,6 @@ module _ (s : List ℕ) (a e : ℕ) where
       go : Dec (a < e) → a < e
       go (yes h) = h
       go (no h) = absurd (let z : _≡_ {A = ℕ} 0 1 = cc (plain-empty (omega arith)) in omega arith)
-
-between-length : (s : List ℕ) (a e : ℕ) → e ≤ length s → length (between s a e) ≡ e - a
-between-length s a e h = length-take-le (e - a) (drop a s) (omega (arith, length-drop a s))
 
 -- the number of zeros can be counted
 pub zeros-room : (s : List ℕ) (a e : ℕ) {x y : Bool} (b : Bool) → x ≡ (y && b) → y ≡ plain-digits (between s a e) → x ≡ true → (a ≤ e) × (1 ≤ e - a)
@@ -91,7 +88,7 @@ module _ {r : Rules} {s : List ℕ} {start end : ℕ} where
   unfolding plain-factor
   plain₁ {x} {y} p q t g = record {
     reads = record {
-      is = rw (ap (λ (b : Bool). b && r .plain) (sym q) ∙ sym p ∙ t, between-length s start end g);
+      is = rw (ap (λ (b : Bool). b && r .plain) (sym q) ∙ sym p ∙ t, length-between s start end g);
       ahead = omega arith;
       within = g;
       inside = tt;
@@ -141,11 +138,11 @@ passed f g e l v = record { is = e ∙ v .is; ahead = omega (arith, v .ahead); w
 module _ (r : Rules) (s : List ℕ) (at : ℕ) where
   wrapped-end : length s ≤ at → wrapped r (drop at s) ≡ none
   unfolding wrapped
-  wrapped-end h = rw (past-end s at h)
+  wrapped-end h = rw (beyond s at h)
 
   starred-end : length s ≤ at → starred-factor r (drop at s) ≡ none
   unfolding starred-factor
-  starred-end h = rw (past-end s at h)
+  starred-end h = rw (beyond s at h)
 
   module _ (h : at < length s) where
     wrapped-open : (eqb (getD s at 0) 40 && r .wrapped) ≡ true → wrapped r (drop at s) ≡ closed ten-to (integer (drop (at + 1) s))
@@ -166,7 +163,7 @@ module _ (r : Rules) (s : List ℕ) (at : ℕ) where
 
   ten-end : (ds : List ℕ) → length s ≤ at → ten-factor r ds (drop at s) ≡ plain-factor r ds (drop at s)
   unfolding ten-factor
-  ten-end ds h = rw (past-end s at h)
+  ten-end ds h = rw (beyond s at h)
 
   module _ (ds : List ℕ) (h : at < length s) where
     ten-signed : (sign (getD s at 0) && r .signed) ≡ true → ten-factor r ds (drop at s) ≡ mapped ten-to (integer (drop at s))
@@ -241,11 +238,11 @@ ten-short (c ∷ d ∷ []) h = absurd (h refl)
 ten-short (c ∷ d ∷ e ∷ l) h = refl
 
 pub is-ten₁ : (s : List ℕ) (a e : ℕ) → e ≤ length s → (e - a ≡ 2 → ⊥) → false ≡ ten (between s a e)
-is-ten₁ s a e h n = sym (ten-short (between s a e) (λ q. n (sym (between-length s a e h) ∙ q)))
+is-ten₁ s a e h n = sym (ten-short (between s a e) (λ q. n (sym (length-between s a e h) ∙ q)))
 
 pub is-ten₂ : (s : List ℕ) (a e : ℕ) → a ≤ e → e ≤ length s → e - a ≡ 2 → (eqb (getD s a 0) 49 && eqb (getD s (a + 1) 0) 48) ≡ ten (between s a e)
 unfolding ten
-is-ten₂ s a e l h q = rw (part-cons s a e (omega arith) h, part-cons s (a + 1) e (omega arith) h, between-nothing s (a + 1 + 1) e (omega arith))
+is-ten₂ s a e l h q = rw (between-cons s a e (omega arith) h, between-cons s (a + 1) e (omega arith) h, between-nothing s (a + 1 + 1) e (omega arith))
 
 module _ {r : Rules} {s : List ℕ} {at end : ℕ} {x : Bool} {o : FactorAt} where
   pub factor₁ : Run digit s at end → x ≡ ten (between s at end) → x ≡ true → ReadsTen r s at end o → ReadsFactorBy r s at o

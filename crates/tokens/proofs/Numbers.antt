@@ -13,8 +13,9 @@ use Rattle.label.specs.Ranges.{digits-in, numeral-in, Inside}
 use Rattle.scan.specs.Runs.{Run}
 use Rattle.tokens.specs.declared.number.DigitsAt.{DigitsAt}
 use Rattle.tokens.specs.declared.number.IntegerAt.{IntegerAt}
-use Rattle.tokens.specs.Answers.{found-by, ReadsDigits, Signs, ReadsInteger, digits-found}
-use Rattle.tokens.proofs.Parts.{here, past as past-end, part-cons}
+use Rattle.tokens.specs.Answers.{ReadsDigits, Signs, ReadsInteger, digits-found}
+use Rattle.scan.specs.Founds.{found-by}
+use Rattle.scan.proofs.Slices.{here, beyond, between-cons}
 
 abbrev pub no-digits : ℕ → DigitsAt
 no-digits at = record { ok = false; digits = record { start = at; end = at } }
@@ -24,14 +25,14 @@ no-digits at = record { ok = false; digits = record { start = at; end = at } }
 module _ (p : ℕ → Bool) (f : List ℕ → Found (List ℕ)) (f-end : f [] ≡ none)
     (f-byte : (c : ℕ) (u : List ℕ) → f (c ∷ u) ≡ pick (p c) (found (c ∷ run digit u) (past digit u)) none) {s : List ℕ} {at : ℕ} where
   ends-here : at ≤ length s → length s ≤ at → ReadsDigits f s at (no-digits at)
-  ends-here h g = record { is = rw (past-end s at g) f-end; ahead = omega arith; inside = record { forward = omega arith; within = h } }
+  ends-here h g = record { is = rw (beyond s at g) f-end; ahead = omega arith; inside = record { forward = omega arith; within = h } }
 
   no-first : at < length s → p (getD s at 0) ≡ false → ReadsDigits f s at (no-digits at)
   no-first h e = record { is = ap f (here s at h) ∙ f-byte (getD s at 0) (drop (at + 1) s) ∙ (rw e); ahead = omega arith; inside = record { forward = omega arith; within = omega arith } }
 
   first-and-run : {e : ℕ} → at < length s → p (getD s at 0) ≡ true → Run digit s (at + 1) e → ReadsDigits f s at (record { ok = true; digits = record { start = at; end = e } })
   first-and-run {e} h q w = record {
-    is = ap f (here s at h) ∙ f-byte (getD s at 0) (drop (at + 1) s) ∙ (rw (q, ← w .bytes, ← w .rest, ← part-cons s at e (omega (arith, w .from)) (w .within)));
+    is = ap f (here s at h) ∙ f-byte (getD s at 0) (drop (at + 1) s) ∙ (rw (q, ← w .bytes, ← w .rest, ← between-cons s at e (omega (arith, w .from)) (w .within)));
     ahead = omega arith;
     inside = record { forward = omega (arith, w .from); within = w .within };
   }
@@ -109,7 +110,7 @@ module _ (s : List ℕ) (at : ℕ) where
 module _ {s : List ℕ} {at : ℕ} where
   pub integer₁ : at ≤ length s → length s ≤ at → ReadsInteger integer s at (no-integer at)
   unfolding integer
-  integer₁ h g = record { is = rw (past-end s at g); ahead = omega arith; inside = record { forward = omega arith; within = h } }
+  integer₁ h g = record { is = rw (beyond s at g); ahead = omega arith; inside = record { forward = omega arith; within = h } }
 
   -- behind a minus, behind a plus, and without a sign
   module _ (b : Bool) (from : ℕ) {d : DigitsAt} {o : IntegerAt} (w : ReadsDigits unsigned s from d) (v : Signs b d o) where

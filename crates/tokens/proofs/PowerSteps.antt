@@ -22,7 +22,7 @@ use Rattle.tokens.specs.declared.number.DigitsAt.{DigitsAt}
 use Rattle.tokens.specs.declared.number.IntegerAt.{IntegerAt}
 use Rattle.tokens.specs.declared.power.PowerAt.{PowerAt}
 use Rattle.tokens.specs.Answers.{ReadsDigits, ReadsInteger, ReadsPower, begins, ClosesBy, ClosesDecimal, ClosesFraction, ReadsOn, ReadsExponent, Powers, StarredFrom}
-use Rattle.tokens.proofs.Parts.{here, past as past-end}
+use Rattle.scan.proofs.Slices.{here, beyond}
 use Rattle.tokens.proofs.Numbers.{mapped-by}
 
 abbrev pub no-power : ℕ → PowerAt
@@ -37,7 +37,7 @@ unwritten-at at = record { ok = true; next = at; power = Unwritten }
 module _ (s : List ℕ) (at : ℕ) where
   pub begins-end : (c : ℕ) → length s ≤ at → begins c (drop at s) ≡ false
   unfolding begins
-  begins-end c h = rw (past-end s at h)
+  begins-end c h = rw (beyond s at h)
 
   pub begins-byte : (c : ℕ) → at < length s → begins c (drop at s) ≡ eqb (getD s at 0) c
   unfolding begins
@@ -114,7 +114,7 @@ module _ {s : List ℕ} {n : SignedDigits} {d : DigitsAt} {r : Bool} where
 module _ (s : List ℕ) (at : ℕ) (n : Numeral) where
   on-end : length s ≤ at → bracketed-on n (drop at s) ≡ none
   unfolding bracketed-on
-  on-end h = rw (past-end s at h)
+  on-end h = rw (beyond s at h)
 
   module _ (h : at < length s) where
     on-close : getD s at 0 ≡ 41 → bracketed-on n (drop at s) ≡ found (whole n) (drop (at + 1) s)
@@ -190,7 +190,7 @@ integer-power {s} {at} {i} {o} f e w v = record {
 module _ (s : List ℕ) (at : ℕ) where
   power-end : length s ≤ at → power (drop at s) ≡ none
   unfolding power
-  power-end h = rw (past-end s at h)
+  power-end h = rw (beyond s at h)
 
   power-open : at < length s → getD s at 0 ≡ 40 → power (drop at s) ≡ bracketed (drop (at + 1) s)
   unfolding power
@@ -214,7 +214,7 @@ module _ {s : List ℕ} {at : ℕ} where
 
   pub starred₁ : at < length s → length s ≤ at + 1 → StarredFrom s at (unwritten-at at)
   unfolding starred
-  starred₁ h g = record { is = rw (past-end s (at + 1) g); ahead = omega arith; within = omega arith; inside = tt }
+  starred₁ h g = record { is = rw (beyond s (at + 1) g); ahead = omega arith; within = omega arith; inside = tt }
 
   pub starred₂ : {o : PowerAt} → at + 1 < length s → getD s (at + 1) 0 ≡ 42 → ReadsPower power s (at + 1 + 1) o → StarredFrom s at o
   unfolding starred
@@ -229,7 +229,7 @@ module _ {s : List ℕ} {at : ℕ} where
 module _ (r : Rules) (s : List ℕ) (at : ℕ) where
   exponent-end : length s ≤ at → exponent r (drop at s) ≡ found unwritten (drop at s)
   unfolding exponent
-  exponent-end h = rw (past-end s at h)
+  exponent-end h = rw (beyond s at h)
 
   module _ (h : at < length s) where
     exponent-direct : ((sign (getD s at 0) || digit (getD s at 0)) && r .direct) ≡ true → exponent r (drop at s) ≡ mapped whole (integer (drop at s))

@@ -12,15 +12,11 @@ use Rattle.label.specs.declared.Rules.{Rules}
 use Rattle.label.specs.declared.SignedDigits.{SignedDigits}
 use Rattle.label.specs.declared.WrittenPower.the-variants.{Whole}
 use Rattle.label.specs.declared.WrittenFactor.the-variants.{TenTo}
+use Rattle.scan.specs.Founds.{found-by}
 use Rattle.tokens.specs.declared.factor.FactorAt.{FactorAt}
 use Rattle.tokens.specs.declared.number.DigitsAt.{DigitsAt}
 use Rattle.tokens.specs.declared.number.IntegerAt.{IntegerAt}
 use Rattle.tokens.specs.declared.power.PowerAt.{PowerAt}
-
--- something found, or nothing
-abbrev pub found-by : {A : Type 0} → Bool → A → List ℕ → Found A
-found-by true a t = found a t
-found-by false a t = none
 
 pub record ReadsDigits (f : List ℕ → Found (List ℕ)) (s : List ℕ) (at : ℕ) (o : DigitsAt) : Type 0 where
   pub is : f (drop at s) ≡ found-by (o .ok) (digits-in s (o .digits)) (drop (o .digits .end) s)

@@ -1,3 +1,4 @@
+-- `scan::class::between` meets its contract.
 use borrow.Author.Tests.{le-leb, lt-leb}
 use Rattle.scan.proofs.class.between.Statement.{statement}
 use Rattle.scan.proofs.class.between.Tie as tie

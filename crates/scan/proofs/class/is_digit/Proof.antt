@@ -1,3 +1,4 @@
+-- `scan::class::is_digit` meets its contract.
 use borrow.Author.Needs.{needs}
 use Rattle.label.specs.Bytes.{digit}
 use Rattle.scan.proofs.class.is_digit.Statement.{statement}

@@ -1,3 +1,4 @@
+-- `scan::class::is_nonzero` meets its contract.
 use borrow.Author.Needs.{needs}
 use Rattle.label.specs.Bytes.{nonzero}
 use Rattle.scan.proofs.class.is_nonzero.Statement.{statement}

@@ -1,3 +1,4 @@
+-- `scan::class::is_sign` meets its contract.
 use borrow.Author.Tests.{eq-eqb, ne-eqb}
 use Rattle.scan.proofs.class.is_sign.Statement.{statement}
 use Rattle.scan.proofs.class.is_sign.Tie as tie

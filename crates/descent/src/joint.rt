@@ -1,0 +1,98 @@
+// What stands between units.
+use label::Rules;
+use scan::class::both;
+use scan::run::spaces;
+ghost use Prim.Native.Nat.{_≤_};
+ghost use mathlib.Core.Path.{_≡_};
+ghost use lib.ListN.{length};
+ghost use Rattle.descent.specs.Joints.{separates, Pads, Joins, Spaces, Leads};
+
+// Nothing that joins; or something that joins, and where the text after it starts.
+pub enum Joint {
+    Stop,
+    Times(usize),
+    Over(usize),
+}
+
+// The place behind the spaces at `at`, where the rules let spaces stand around a separator.
+pub fn padded(r: Rules, s: &[u8], at: usize) -> usize
+    requires { ⌜ at ≤ length (now s) ⌝ }
+    ensures { λ o. ⌜ Pads r (now (s .entry)) at o ⌝ }
+{
+    if r.spaces {
+        return spaces(s, at);
+    }
+    at
+}
+
+// Whether a byte makes a product.
+pub fn is_separator(r: Rules, c: u8) -> bool
+    ensures { λ o. ⌜ o ≡ separates r c ⌝ }
+{
+    if both(c == 42, r.star) {
+        return true;
+    }
+    both(c == 46, r.point)
+}
+
+// A product by spaces alone.
+pub fn spaced(r: Rules, s: &[u8], at: usize) -> Joint
+    requires { ⌜ at ≤ length (now s) ⌝ }
+    ensures { λ o. ⌜ Spaces r (now (s .entry)) at o ⌝ }
+{
+    if s.len() <= at {
+        return Joint::Stop;
+    }
+    if both(s[at] == 32, r.space) {
+        return Joint::Times(padded(r, s, at + 1));
+    }
+    Joint::Stop
+}
+
+// What joins the unit or group before `at` to the next.
+pub fn join_at(r: Rules, s: &[u8], at: usize) -> Joint
+    requires { ⌜ at ≤ length (now s) ⌝ }
+    ensures { λ o. ⌜ Joins r (now (s .entry)) at o ⌝ }
+{
+    let p = padded(r, s, at);
+    if s.len() <= p {
+        return Joint::Stop;
+    }
+    let c = s[p];
+    if is_separator(r, c) {
+        return Joint::Times(padded(r, s, p + 1));
+    }
+    if both(c == 47, r.each) {
+        return Joint::Over(padded(r, s, p + 1));
+    }
+    spaced(r, s, at)
+}
+
+// A slash that leads a product, and where the text after it starts.
+pub struct Leading {
+    pub found: bool,
+    pub next: usize,
+}
+
+pub fn leading_slash(r: Rules, s: &[u8], at: usize) -> Leading
+    requires { ⌜ at ≤ length (now s) ⌝ }
+    ensures { λ o. ⌜ Leads r (now (s .entry)) at o ⌝ }
+{
+    let p = padded(r, s, at);
+    if s.len() <= p {
+        return Leading {
+            found: false,
+            next: at,
+        };
+    }
+    if both(s[p] == 47, r.each) {
+        return Leading {
+            found: true,
+            next: padded(r, s, p + 1),
+        };
+    }
+    Leading {
+        found: false,
+        next: at,
+    }
+}

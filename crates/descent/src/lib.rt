@@ -1,0 +1,3 @@
+// Reading of a label by its notation's rules: recursive descent over a lent slice.
+pub mod joint;
+pub mod terms;

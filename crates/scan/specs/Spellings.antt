@@ -1,0 +1,37 @@
+-- What a scan for a spelling finds, in terms of the text from a place on.
+use Prim.Native.Nat.{ℕ, _≤_, _<_, _+_}
+use mathlib.Core.Path.{_≡_}
+use mathlib.Core.Bool.{true, false}
+use mathlib.Core.List.{List}
+use lib.ListN.{length, drop, getD}
+use Rattle.label.specs.declared.Rules.{Rules}
+use Rattle.label.specs.Bytes.{quote}
+use Rattle.label.specs.Parse.{Found, quoted, lettered, spelling}
+use Rattle.label.specs.Ranges.{between}
+use Rattle.scan.specs.Founds.{found-by}
+use Rattle.scan.specs.declared.spelling.Spelling.{Spelling}
+
+-- a quote stands at q, and a spelling that it is in starts at a
+pub record QuoteAt (s : List ℕ) (a q : ℕ) : Type 0 where
+  pub forward : a ≤ q
+  pub within : q < length s
+  pub is : getD s q 0 ≡ quote
+
+-- x is what o tells: the bytes from a up to its end, and the text from there on; or nothing
+pub record Told (x : Found (List ℕ)) (s : List ℕ) (a : ℕ) (o : Spelling) : Type 0 where
+  pub is : x ≡ found-by (o .ok) (between s a (o .end)) (drop (o .end) s)
+  pub ahead : o .ok ≡ true → a < o .end
+  pub back : o .ok ≡ false → o .end ≡ a
+  pub within : o .end ≤ length s
+
+-- letters and a closing quote, behind the quote at q; the spelling starts at a
+abbrev pub Quoted : List ℕ → ℕ → ℕ → Spelling → Type 0
+Quoted s a q o = Told (quoted (between s a q) (drop (q + 1) s)) s a o
+
+-- the letters from a up to e, or a quoted spelling that they begin
+abbrev pub Lettered : Rules → List ℕ → ℕ → ℕ → Spelling → Type 0
+Lettered r s a e o = Told (lettered r (between s a e) (drop e s)) s a o
+
+-- the spelling that starts at a
+abbrev pub Spelled : Rules → List ℕ → ℕ → Spelling → Type 0
+Spelled r s a o = Told (spelling r (drop a s)) s a o

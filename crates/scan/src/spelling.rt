@@ -1,0 +1,121 @@
+// Spellings: letters, letters in quotes, a percent sign; and names of prefixes.
+use crate::class::both;
+use crate::class::is_letter;
+use crate::run::letters;
+use label::Rules;
+ghost use Prim.Native.Nat.{_≤_, _<_};
+ghost use mathlib.Core.Path.{_≡_};
+ghost use mathlib.Core.List.{[], _∷_};
+ghost use lib.ListN.{length};
+ghost use Rattle.label.specs.Prefixes.{prefix-name};
+ghost use Rattle.label.specs.Ranges.{between};
+ghost use Rattle.scan.specs.Spellings.{QuoteAt, Quoted, Lettered, Spelled};
+
+// A spelling, by the place where it ends. Where there is none, `ok` is false and `end` is the place read from.
+pub struct Spelling {
+    pub ok: bool,
+    pub end: usize,
+}
+
+// A letter that is the name of a prefix. Neighbours in the alphabet stand in two arms, so that no arm has a range.
+pub fn is_prefix_letter(c: u8) -> bool
+    ensures { λ r. ⌜ r ≡ prefix-name (c ∷ []) ⌝ }
+{
+    match c {
+        b'h' | b'k' | b'M' | b'G' | b'T' | b'P' | b'E' | b'Z' => true,
+        b'Y' | b'd' | b'm' | b'u' | b'p' | b'f' | b'a' | b'z' => true,
+        b'c' | b'n' | b'y' => true,
+        _ => false,
+    }
+}
+
+// Whether the bytes from `start` up to `end` are the name of a prefix.
+pub fn is_prefix_name(s: &[u8], start: usize, end: usize) -> bool
+    requires { ⌜ (start ≤ end) × (end ≤ length (now s)) ⌝ }
+    ensures { λ r. ⌜ r ≡ prefix-name (between (now (s .entry)) start end) ⌝ }
+{
+    let count = end - start;
+    if count == 1 {
+        return is_prefix_letter(s[start]);
+    }
+    if count == 2 {
+        return both(s[start] == b'd', s[start + 1] == b'a');
+    }
+    false
+}
+
+// Letters and a closing quote, behind the quote at `at`. The spelling starts at `start`: a prefix may stand there.
+pub fn quoted_from(s: &[u8], start: usize, at: usize) -> Spelling
+    requires { ⌜ QuoteAt (now s) start at ⌝ }
+    ensures { λ o. ⌜ Quoted (now (s .entry)) start at o ⌝ }
+{
+    let first = at + 1;
+    let end = letters(s, first);
+    if end == first {
+        return Spelling {
+            ok: false,
+            end: start,
+        };
+    }
+    if s.len() <= end {
+        return Spelling {
+            ok: false,
+            end: start,
+        };
+    }
+    if s[end] != b'\'' {
+        return Spelling {
+            ok: false,
+            end: start,
+        };
+    }
+    Spelling {
+        ok: true,
+        end: end + 1,
+    }
+}
+
+// The letters from `start` up to `end`, or a quoted spelling that they begin.
+pub fn lettered_from(r: Rules, s: &[u8], start: usize, end: usize) -> Spelling
+    requires { ⌜ (start < end) × (end ≤ length (now s)) ⌝ }
+    ensures { λ o. ⌜ Lettered r (now (s .entry)) start end o ⌝ }
+{
+    if s.len() <= end {
+        return Spelling { ok: true, end };
+    }
+    if !both(s[end] == b'\'', r.quotes) {
+        return Spelling { ok: true, end };
+    }
+    if !is_prefix_name(s, start, end) {
+        return Spelling {
+            ok: false,
+            end: start,
+        };
+    }
+    quoted_from(s, start, end)
+}
+
+// The spelling that starts at `at`.
+pub fn spelling_at(r: Rules, s: &[u8], at: usize) -> Spelling
+    requires { ⌜ at ≤ length (now s) ⌝ }
+    ensures { λ o. ⌜ Spelled r (now (s .entry)) at o ⌝ }
+{
+    if s.len() <= at {
+        return Spelling { ok: false, end: at };
+    }
+    let c = s[at];
+    if is_letter(c) {
+        let end = letters(s, at);
+        return lettered_from(r, s, at, end);
+    }
+    if both(c == b'%', r.percent) {
+        return Spelling {
+            ok: true,
+            end: at + 1,
+        };
+    }
+    if both(c == b'\'', r.quotes) {
+        return quoted_from(s, at, at);
+    }
+    Spelling { ok: false, end: at }
+}

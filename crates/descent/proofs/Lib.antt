@@ -1,0 +1,3 @@
+pub mod JointSteps
+pub mod TermSteps
+pub mod StepLaws

@@ -1,5 +1,7 @@
 // The terms of a label: at most 32 are kept, and all are counted.
 use label::Exponent;
+ghost use mathlib.Core.Path.{_≡_};
+ghost use mathlib.Core.Bool.{_||_, not};
 ghost use Prim.Native.Nat.{_<_, _+_, _^_};
 ghost use Rattle.descent.specs.Terms.{Empty, Pushed};
 
@@ -32,19 +34,29 @@ pub fn no_terms() -> Terms
     }
 }
 
+// Whether `a` holds or `ok` does not.
+pub fn unless(a: bool, ok: bool) -> bool
+    ensures { λ r. ⌜ r ≡ (a || not ok) ⌝ }
+{
+    if a {
+        return true;
+    }
+    !ok
+}
+
 // One term more. `ok` tells whether its exponent keeps its bounds.
 pub fn push(t: Terms, x: Term, ok: bool) -> Terms
     requires { ⌜ t .count + 1 < 2 ^ 64 ⌝ }
     ensures { λ r. ⌜ Pushed t x ok r ⌝ }
 {
     let n = t.count;
+    let broken = unless(t.broken, ok);
     let mut next = t;
     next.count = n + 1;
-    if !ok {
-        next.broken = true;
-    }
+    next.broken = broken;
     if n < 32 {
         next.kept[n] = x;
+        return next;
     }
     next
 }

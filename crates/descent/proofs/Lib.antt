@@ -1,3 +1,4 @@
 pub mod JointSteps
 pub mod TermSteps
 pub mod StepLaws
+pub mod LabelSteps

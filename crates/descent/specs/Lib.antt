@@ -1,3 +1,4 @@
 pub mod Terms
 pub mod Joints
 pub mod Steps
+pub mod Labels

@@ -92,7 +92,7 @@ module _ {r : Rules} {b : Bool} {s : List ℕ} {at : ℕ} {t : Terms} {w : Spell
         within = q .reads .within;
         ahead = λ _. omega (arith, v .ahead (not-false (w .ok) e), q .reads .ahead);
         few = λ _. omega (arith, y .count, g .few, v .ahead (not-false (w .ok) e), q .reads .ahead);
-        keeps = λ _ ps h. holds-more s part x (rw (← length-drop at s)) y ps h;
+        keeps = λ _ ps h. holds-more s part x (rw (← length-drop at s)) y (record { forward = omega (arith, v .ahead (not-false (w .ok) e)); within = v .within }) ps h;
       };
     }
       where

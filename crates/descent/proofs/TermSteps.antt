@@ -17,7 +17,7 @@ use Rattle.label.proofs.Basics.{false-true}
 use Rattle.values.specs.Given.{given}
 use Rattle.descent.specs.declared.terms.Term.{Term}
 use Rattle.descent.specs.declared.terms.Terms.{Terms}
-use Rattle.descent.specs.Terms.{Empty, Pushed, placed-in, is-none, Holds}
+use Rattle.descent.specs.Terms.{Empty, Pushed, placed-in, is-none, InLabel, AllIn, Holds}
 
 module _ {t : Terms} {x : Term} {ok b : Bool} (e : b ≡ (t .broken || not ok)) where
   pub push₁ : t .count < 32 → Pushed t x ok (record { count = t .count + 1; broken = b; kept = set (t .kept) (t .count) x })
@@ -35,7 +35,7 @@ module _ {t : Terms} {x : Term} {ok b : Bool} (e : b ≡ (t .broken || not ok)) 
 
 pub holds-none : {t : Terms} → Empty t → (s : List ℕ) → Holds s t []
 unfolding valued-units
-holds-none w s = record { count = w .count; room = w .room; broken = w .unbroken; kept = λ h e. rw (w .count) }
+holds-none w s = record { count = w .count; room = w .room; broken = w .unbroken; kept = λ h e. rw (w .count); inside = λ h. rw (w .count) AllIn.none }
 
 -- two lists of units, if both have their values
 both-units : Option (List Placed) → Option (List Placed) → Option (List Placed)
@@ -65,8 +65,12 @@ unfolding valued-units valued-unit
 one-unit p true e q = rw (← q)
 one-unit p false e q = rw (← q)
 
+all-in-more : {s : List ℕ} {xs : List Term} {x : Term} → AllIn s xs → InLabel s x → AllIn s (xs ++ (x ∷ []))
+all-in-more AllIn.none i = AllIn.more i AllIn.none
+all-in-more (AllIn.more j js) i = AllIn.more j (all-in-more js i)
+
 module _ (s : List ℕ) {t u : Terms} {x : Term} {ok : Bool} (p : Part) (q : given ok (x .exponent) ≡ exponent-of (p .turned) (p .power))
-    (same : placed-in s x ≡ record { spelling = p .spelling; exponent = x .exponent; left = p .left }) (w : Pushed t x ok u) where
+    (same : placed-in s x ≡ record { spelling = p .spelling; exponent = x .exponent; left = p .left }) (w : Pushed t x ok u) (i : InLabel s x) where
   units-more : (ps : List Part) → valued-units (ps ++ (p ∷ [])) ≡ both-units (valued-units ps) (given ok (placed-in s x ∷ []))
   units-more ps = units-append ps (p ∷ []) ∙ ap (both-units (valued-units ps)) (one-unit p ok (x .exponent) q ∙ ap (λ (y : Placed). given ok (y ∷ [])) (sym same))
 
@@ -77,6 +81,7 @@ module _ (s : List ℕ) {t u : Terms} {x : Term} {ok : Bool} (p : Part) (q : giv
     room = w .room (h .room);
     broken = w .broken ∙ ap (λ (b : Bool). b || not ok) (h .broken) ∙ flag (valued-units ps) ok ∙ ap is-none (sym (units-more ps));
     kept = λ l e. units-more ps ∙ keeps l e (t .broken) ok refl refl;
+    inside = λ l. rw (w .count, w .kept (h .room) (omega (arith, h .count, length-append ps (p ∷ [])))) (all-in-more (h .inside (omega (arith, length-append ps (p ∷ [])))) i);
   }
     where
       flag : (o : Option (List Placed)) (b : Bool) → (is-none o || not b) ≡ is-none (both-units o (given b (placed-in s x ∷ [])))

@@ -1,0 +1,13 @@
+-- The laws that the proofs of this crate cite.
+pub mod Computing
+pub mod Parts
+pub mod RowLaws
+pub mod KeyLaws
+pub mod SetLaws
+pub mod Quotes
+pub mod NameLaws
+pub mod PrefixLaws
+pub mod CutLaws
+pub mod SymbolLaws
+pub mod UnitLaws
+pub mod PropertyLaws

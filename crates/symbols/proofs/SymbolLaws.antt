@@ -1,0 +1,185 @@
+-- The rule of the first fit, by the two cuts that a spelling can have.
+use Prim.Native.Nat.{ℕ, suc, _+_, _-_, _≤_, _<_}
+use native.Mathlib.Omega.{arith}
+use mathlib.Core.Path.{_≡_, refl, sym, ap, _∙_}
+use mathlib.Core.Bool.{Bool, true, false}
+use mathlib.Core.List.{List, [], _∷_, _++_, append-assoc}
+use mathlib.Core.Option.{Option, none, some}
+use lib.Dec.{leb}
+use lib.ListN.{length, drop, length-drop, drop-of-length-le}
+use borrow.Author.Tests.{le-leb, leb-true, leb-false}
+use Rattle.label.proofs.Basics.{none-some}
+use Rattle.label.specs.Symbols.{Symbol, known, unknown, unit-named, Cut, KnownCut, cuts, known-by, known-among, known-cuts}
+use Rattle.label.specs.Symbols.{longer, longest, by-longest, by-cut, by-whole, by-quote, unquoted, symbol}
+use Rattle.label.specs.Bytes.{run}
+use Rattle.label.specs.Prefixes.{prefix-named}
+use Rattle.label.specs.Ranges.{between}
+use Rattle.symbols.specs.declared.Cut.{Cut as Cutting}
+use Rattle.symbols.specs.Views.{place, behind, prefix-cut, unit-cut, CutAt, FirstQuote}
+use Rattle.symbols.proofs.CutLaws.{cut-list, two-then-one}
+use Rattle.symbols.proofs.Parts.{part-none, part-cons, part-length, part-take, part-drop}
+
+-- PLACES
+
+pub placed-none : (r : ℕ) → r ≤ 0 → place r ≡ none
+unfolding place
+placed-none r h =
+    let e : r ≡ 0 = omega arith in
+    rw e
+
+-- a place that is not 0
+pub placed-at : (r : ℕ) → 0 < r → place r ≡ some (r - 1)
+unfolding place
+placed-at r h =
+    let e : r ≡ suc (r - 1) = omega arith in
+    go (r - 1) e
+  where
+    go : (k : ℕ) → r ≡ suc k → place r ≡ some k
+    go k e = rw e
+
+-- what a spelling stands for whose whole is unknown: prefixes p, q and units u, v behind two letters and behind one
+unfoldable pub chosen : List ℕ → Option ℕ → Option ℕ → Option ℕ → Option ℕ → Symbol
+chosen l p (some u) q v = known p u
+chosen l p none q (some v) = known q v
+chosen l (some i) none q none = unknown (some i) (drop 2 l)
+chosen l none none (some j) none = unknown (some j) (drop 1 l)
+chosen l none none none none = unknown none l
+
+among-both : (n : ℕ) (xs ys : List Cut) → known-among n (xs ++ ys) ≡ known-among n xs ++ known-among n ys
+unfolding known-among
+among-both n [] ys = refl
+among-both n (x ∷ xs) ys =
+    rw (among-both n xs ys) (sym (append-assoc (known-by x (unit-named n (x .rest))) (known-among n xs) (known-among n ys)))
+
+-- by a list of cuts in place of the cuts of l
+by-cuts : List ℕ → List Cut → List KnownCut → Symbol
+by-cuts l cs (x ∷ xs) = known (some (x .cut .prefix)) (x .unit)
+by-cuts l cs [] = by-longest l (longest cs)
+
+by-cuts-are : (l : List ℕ) (cs : List Cut) (ks : List KnownCut) → cuts l ≡ cs → by-cut l ks ≡ by-cuts l cs ks
+unfolding by-cut by-cuts
+by-cuts-are l cs (x ∷ xs) e = refl
+by-cuts-are l cs [] e = rw e
+
+-- two cuts, of which the first leaves no more letters
+two-cuts : (n : ℕ) (l a b : List ℕ) (p q : Option ℕ) (u v : Option ℕ) → unit-named n a ≡ u → unit-named n b ≡ v
+    → a ≡ drop 2 l → b ≡ drop 1 l → leb (length a) (length b) ≡ true
+    → by-cuts l (cut-list p a ++ cut-list q b) (known-among n (cut-list p a) ++ known-among n (cut-list q b))
+    ≡ chosen l p (behind p u) q (behind q v)
+unfolding by-cuts cut-list known-among known-by by-longest longest longer chosen
+two-cuts n l a b none none u v e f c d h = refl
+two-cuts n l a b none (some j) u none e f c d h = rw (f, d)
+two-cuts n l a b none (some j) u (some v) e f c d h = rw f
+two-cuts n l a b (some i) none none v e f c d h = rw (e, c)
+two-cuts n l a b (some i) none (some u) v e f c d h = rw e
+two-cuts n l a b (some i) (some j) none none e f c d h = rw (e, f, h, c)
+two-cuts n l a b (some i) (some j) none (some v) e f c d h = rw (e, f)
+two-cuts n l a b (some i) (some j) (some u) v e f c d h = rw e
+
+-- What a spelling stands for whose whole is unknown.
+pub by-cut-is : (n : ℕ) (l : List ℕ) → by-cut l (known-cuts n l) ≡ chosen l (prefix-cut 2 l) (unit-cut n 2 l) (prefix-cut 1 l) (unit-cut n 1 l)
+unfolding known-cuts unit-cut
+by-cut-is n l =
+    by-cuts-are l (cut-list (prefix-cut 2 l) (drop 2 l) ++ cut-list (prefix-cut 1 l) (drop 1 l)) (known-among n (cuts l)) (two-then-one l)
+    ∙ rw (two-then-one l, among-both n (cut-list (prefix-cut 2 l) (drop 2 l)) (cut-list (prefix-cut 1 l) (drop 1 l)))
+    (two-cuts n l (drop 2 l) (drop 1 l) (prefix-cut 2 l) (prefix-cut 1 l) (unit-named n (drop 2 l)) (unit-named n (drop 1 l)) refl refl refl refl
+    (le-leb (length (drop 2 l)) (length (drop 1 l)) (rw (length-drop 2 l, length-drop 1 l) (omega arith))))
+
+-- ONE CUT
+
+-- a cut with no prefix
+no-cut : (n k : ℕ) (s : List ℕ) (start end : ℕ) → prefix-cut k (between s start end) ≡ none
+    → CutAt n k s start end (record { prefix = 0; unit = 0 })
+unfolding place unit-cut
+no-cut n k s start end e = record { prefix-is = sym e; unit-is = rw e }
+
+module _ (n k : ℕ) (s : List ℕ) (start end : ℕ) (h : start ≤ end) (g : end ≤ length s) where
+  none-left : end - start ≤ k → prefix-cut k (between s start end) ≡ none
+  unfolding prefix-cut
+  none-left f = rw (drop-of-length-le (between s start end) {i = k} (rw (part-length s start end h g) f))
+
+  some-left : k < end - start → prefix-cut k (between s start end) ≡ prefix-named (between s start (start + k))
+  unfolding prefix-cut
+  some-left f = rw (part-drop s start end k, part-cons s (start + k) end (omega arith) g, part-take s start end k (omega arith))
+
+  pub cut-short : end - start ≤ k → CutAt n k s start end (record { prefix = 0; unit = 0 })
+  cut-short f = no-cut n k s start end (none-left f)
+
+  module _ (f : k < end - start) (p : ℕ) (e : place p ≡ prefix-named (between s start (start + k))) where
+    pub cut-other : p ≡ 0 → CutAt n k s start end (record { prefix = 0; unit = 0 })
+    unfolding place
+    cut-other z = no-cut n k s start end (some-left f ∙ sym e ∙ ap place z)
+
+    pub cut-prefix : (p ≡ 0 → ⊥) → (u : ℕ) → place u ≡ unit-named n (between s (start + k) end)
+        → CutAt n k s start end (record { prefix = p; unit = u })
+    unfolding unit-cut
+    cut-prefix z u d =
+        let i : prefix-cut k (between s start end) ≡ some (p - 1) = some-left f ∙ sym e ∙ placed-at p (omega arith) in
+        record { prefix-is = e ∙ sym (some-left f); unit-is = rw (i, part-drop s start end k) d }
+
+  -- a cut with a prefix leaves letters
+  pub letters-left : {r : Cutting} → CutAt n k s start end r → 0 < r .prefix → k < end - start
+  letters-left {r} w f = go (leb (end - start) k) refl
+    where
+      go : (x : Bool) → leb (end - start) k ≡ x → k < end - start
+      go true e = absurd (none-some (sym (none-left (leb-true (end - start) k e)) ∙ sym (w .prefix-is) ∙ placed-at (r .prefix) f))
+      go false e = leb-false (end - start) k e
+
+-- THE CHOICE
+
+module _ {n : ℕ} {s : List ℕ} {start end : ℕ} {two : Cutting} (a : CutAt n 2 s start end two) where
+  pub first-known : 0 < two .unit → known (place (two .prefix)) (two .unit - 1) ≡ by-cut (between s start end) (known-cuts n (between s start end))
+  unfolding chosen
+  first-known h = sym (by-cut-is n (between s start end) ∙ rw (← a .prefix-is, ← a .unit-is, placed-at (two .unit) h))
+
+  module _ (z : two .unit ≤ 0) {one : Cutting} (b : CutAt n 1 s start end one) where
+    chosen-is : by-cut (between s start end) (known-cuts n (between s start end))
+        ≡ chosen (between s start end) (place (two .prefix)) none (place (one .prefix)) (place (one .unit))
+    chosen-is =
+        by-cut-is n (between s start end)
+        ∙ rw (← a .prefix-is, ← a .unit-is, ← b .prefix-is, ← b .unit-is, placed-none (two .unit) z)
+
+    pub second-known : 0 < one .unit → known (place (one .prefix)) (one .unit - 1) ≡ by-cut (between s start end) (known-cuts n (between s start end))
+    unfolding chosen
+    second-known h = sym (chosen-is ∙ rw (placed-at (one .unit) h))
+
+    module _ (y : one .unit ≤ 0) where
+      pub first-unknown : 0 < two .prefix
+          → unknown (place (two .prefix)) (between s (start + 2) end) ≡ by-cut (between s start end) (known-cuts n (between s start end))
+      unfolding chosen
+      first-unknown h = sym (chosen-is ∙ rw (placed-none (one .unit) y, placed-at (two .prefix) h, part-drop s start end 2))
+
+      pub second-unknown : two .prefix ≤ 0 → 0 < one .prefix
+          → unknown (place (one .prefix)) (between s (start + 1) end) ≡ by-cut (between s start end) (known-cuts n (between s start end))
+      unfolding chosen
+      second-unknown x h =
+          sym (chosen-is ∙ rw (placed-none (one .unit) y, placed-none (two .prefix) x, placed-at (one .prefix) h, part-drop s start end 1))
+
+      pub neither : two .prefix ≤ 0 → one .prefix ≤ 0
+          → unknown (place 0) (between s start end) ≡ by-cut (between s start end) (known-cuts n (between s start end))
+      unfolding chosen place
+      neither x w = sym (chosen-is ∙ rw (placed-none (one .unit) y, placed-none (two .prefix) x, placed-none (one .prefix) w))
+
+-- THE WHOLE
+
+module _ (n : ℕ) (l : List ℕ) (w : ℕ) (e : place w ≡ unit-named n l) where
+  pub whole-known : 0 < w → known (place 0) (w - 1) ≡ by-whole n l (unit-named n l)
+  unfolding place by-whole
+  whole-known h = rw (← e, placed-at w h)
+
+  pub whole-other : w ≤ 0 → by-cut l (known-cuts n l) ≡ by-whole n l (unit-named n l)
+  unfolding by-whole
+  whole-other h = rw (← e, placed-none w h)
+
+-- QUOTES
+
+module _ (n : ℕ) {s : List ℕ} {start end q : ℕ} (g : end ≤ length s) (w : FirstQuote s start end q) where
+  pub with-quote : q < end → unknown (prefix-named (between s start q)) (run unquoted (between s (q + 1) end)) ≡ symbol n (between s start end)
+  unfolding symbol by-quote
+  with-quote h = rw (← w .after, ← w .before, part-cons s q end h g)
+
+  pub without-quote : end ≤ q → by-whole n (between s start end) (unit-named n (between s start end)) ≡ symbol n (between s start end)
+  unfolding symbol by-quote
+  without-quote h =
+      let e : q ≡ end = omega (arith, w .upto) in
+      rw (← w .after, e, part-none s end)

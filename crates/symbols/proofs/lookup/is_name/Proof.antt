@@ -1,0 +1,20 @@
+-- `symbols::lookup::is_name` meets its contract: the spelling first, then the notation.
+use mathlib.Core.Path.{sym, _∙_}
+use borrow.Author.Needs.{needs}
+use Rattle.symbols.proofs.lookup.is_name.Statement.{statement}
+use Rattle.symbols.proofs.lookup.is_name.Tie as tie
+
+same-symbol-requires : tie.Need-same-symbol-requires
+same-symbol-requires c κs = search needs
+
+has-notation-requires : tie.Need-has-notation-requires
+has-notation-requires c κs = search needs
+
+returns : tie.Need-returns
+returns c = rw (sym (c .before .before .same-symbol .ensures) ∙ c .before .if1 .taken) (c .has-notation .ensures)
+
+returns-2 : tie.Need-returns-2
+returns-2 c = rw (sym (c .before .same-symbol .ensures) ∙ c .if1 .left)
+
+pub is-name-spec : {M : Type 1} → statement M
+is-name-spec = tie.close (tie.spec same-symbol-requires has-notation-requires returns returns-2)

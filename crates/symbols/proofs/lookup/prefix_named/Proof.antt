@@ -1,0 +1,88 @@
+use Prim.Native.Nat.{_-_}
+use native.Mathlib.Omega.{arith}
+use borrow.Author.Needs.{needs}
+use Rattle.label.specs.Ranges.{between}
+use Rattle.symbols.proofs.Parts.{part-length}
+use Rattle.symbols.proofs.KeyLaws.{spelled-part}
+use Rattle.symbols.proofs.PrefixLaws.{Searching, search-none, search-hit, search-miss, search-all, too-long, lengths-count, keys-count}
+use Rattle.symbols.proofs.lookup.prefix_named.Statement.{statement}
+use Rattle.symbols.proofs.lookup.prefix_named.Tie as tie
+
+abbrev Inv-loop : tie.InvT-loop
+Inv-loop lengths keys s start end size number i₀ i = Searching lengths keys (between s start end) size number i
+
+abbrev μ-loop : tie.MeasureT-loop
+μ-loop lengths keys s start end size number i₀ i = 20 - i
+
+sub-size : tie.Need-sub-size Inv-loop μ-loop
+sub-size c = omega arith
+
+returns : tie.Need-returns Inv-loop μ-loop
+returns c =
+    let start = c .before .before .before .before in
+    too-long _ (rw (part-length _ _ _ (start .pre .1 .0) (start .pre .1 .1)) (c .if1 .taken))
+
+key-requires : tie.Need-key-requires Inv-loop μ-loop
+key-requires c κs = search needs
+
+loop-holds : tie.Need-loop-holds Inv-loop μ-loop
+loop-holds c =
+    let start = c .before .before .before .before .before in
+    let a = start .args in
+    search-none (start .pre .0)
+    (spelled-part (a .s .now) (a .start) (a .end) (start .pre .1 .0) (start .pre .1 .1) (c .before .before .shared-slice-known3 .given) _ (c .key .ensures))
+
+shared-slice-read-same-symbol : tie.Need-shared-slice-read-same-symbol Inv-loop μ-loop
+shared-slice-read-same-symbol c = omega (arith, lengths-count (c .before .before .loop .inv .columns))
+
+mul-same-symbol : tie.Need-mul-same-symbol Inv-loop μ-loop
+mul-same-symbol c = omega arith
+
+shared-slice-read-same-symbol-2 : tie.Need-shared-slice-read-same-symbol-2 Inv-loop μ-loop
+shared-slice-read-same-symbol-2 c = omega (arith, keys-count (c .before .before .before .loop .inv .columns))
+
+same-symbol-requires : tie.Need-same-symbol-requires Inv-loop μ-loop
+same-symbol-requires c κs = search needs
+
+cast-result : tie.Need-cast-result Inv-loop μ-loop
+cast-result c = omega arith
+
+add-result : tie.Need-add-result Inv-loop μ-loop
+add-result c = omega arith
+
+returns-2 : tie.Need-returns-2 Inv-loop μ-loop
+returns-2 c = search-hit (c .before .before .before .before .loop-test .taken) (c .before .before .before .before .before .loop .inv) (c .before .same-symbol .ensures) (c .if2 .taken)
+
+add-i : tie.Need-add-i Inv-loop μ-loop
+add-i c = omega arith
+
+loop-less : tie.Need-loop-less Inv-loop μ-loop
+loop-less c = omega arith
+
+loop-again : tie.Need-loop-again Inv-loop μ-loop
+loop-again c = search-miss (c .before .before .before .before .loop-test .taken) (c .before .before .before .before .before .loop .inv) (c .before .same-symbol .ensures) (c .if2 .left)
+
+returns-3 : tie.Need-returns-3 Inv-loop μ-loop
+returns-3 c = search-all (c .loop-test .left) (c .before .loop .inv)
+
+pub prefix-named-spec : {M : Type 1} → statement M
+prefix-named-spec =
+    tie.close
+    (tie.spec
+    Inv-loop
+    μ-loop
+    sub-size
+    returns
+    key-requires
+    loop-holds
+    shared-slice-read-same-symbol
+    mul-same-symbol
+    shared-slice-read-same-symbol-2
+    same-symbol-requires
+    cast-result
+    add-result
+    returns-2
+    add-i
+    loop-less
+    loop-again
+    returns-3)

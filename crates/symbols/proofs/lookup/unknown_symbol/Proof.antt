@@ -1,0 +1,12 @@
+-- `symbols::lookup::unknown_symbol` meets its contract by what a symbol stands for.
+use mathlib.Core.Path.{refl}
+use Rattle.symbols.specs.Views.{symbol-in}
+use Rattle.symbols.proofs.lookup.unknown_symbol.Statement.{statement}
+use Rattle.symbols.proofs.lookup.unknown_symbol.Tie as tie
+
+returns : tie.Need-returns
+unfolding symbol-in
+returns c = λ s. refl
+
+pub unknown-symbol-spec : {M : Type 1} → statement M
+unknown-symbol-spec = tie.close (tie.spec returns)

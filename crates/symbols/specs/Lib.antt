@@ -1,0 +1,7 @@
+-- The definitions that the contracts of this crate cite.
+pub mod Keys
+pub mod Sets
+pub mod Names
+pub mod Columns
+pub mod Views
+pub mod Slots

@@ -1,0 +1,65 @@
+-- What the numbers and structs of the code stand for.
+use Prim.Native.Nat.{ℕ, zero, suc, _≤_}
+use mathlib.Core.Path.{_≡_}
+use mathlib.Core.List.{List, [], _∷_}
+use mathlib.Core.Option.{Option, none, some}
+use lib.ListN.{take, drop}
+use Rattle.label.specs.Bytes.{run, past}
+use Rattle.label.specs.Choice.{pick}
+use Rattle.label.specs.Ranges.{between}
+use Rattle.label.specs.Prefixes.{prefix-named}
+use Rattle.label.specs.Symbols.{known, unknown, unit-named, unquoted}
+use Rattle.label.specs.Symbols as spec
+use Rattle.label.specs.Units.{BasePower, unit-at}
+use Rattle.symbols.specs.declared.Symbol.{Symbol}
+use Rattle.symbols.specs.declared.Cut.{Cut}
+use Rattle.symbols.specs.Slots.{unused, slot}
+
+-- a place in a table: 0 is none, and any other number is one more than the place
+unfoldable pub place : ℕ → Option ℕ
+place zero = none
+place (suc i) = some i
+
+-- a symbol of the label s
+unfoldable pub symbol-in : List ℕ → Symbol → spec.Symbol
+symbol-in s x =
+    pick (x .known) (known (place (x .prefix)) (x .unit)) (unknown (place (x .prefix)) (between s (x .start) (x .end)))
+
+-- the first quote of s from start up to end stands at r, or r is the end
+pub record FirstQuote (s : List ℕ) (start end r : ℕ) : Type 0 where
+  pub from : start ≤ r
+  pub upto : r ≤ end
+  pub before : between s start r ≡ run unquoted (between s start end)
+  pub after : between s r end ≡ past unquoted (between s start end)
+
+-- CUTS
+
+-- a prefix, where letters are left behind it
+abbrev pub with-rest : Option ℕ → List ℕ → Option ℕ
+with-rest p [] = none
+with-rest p (c ∷ l) = p
+
+-- the prefix that the first k letters of l are, where letters are left behind it
+unfoldable pub prefix-cut : ℕ → List ℕ → Option ℕ
+prefix-cut k l = with-rest (prefix-named (take k l)) (drop k l)
+
+-- a unit, where it stands behind a prefix
+abbrev pub behind : Option ℕ → Option ℕ → Option ℕ
+behind none u = none
+behind (some i) u = u
+
+-- the unit that notation n knows by the letters of l behind a prefix of k letters
+unfoldable pub unit-cut : ℕ → ℕ → List ℕ → Option ℕ
+unit-cut n k l = behind (prefix-cut k l) (unit-named n (drop k l))
+
+-- the bytes of s from start up to end, cut behind their first k letters
+pub record CutAt (n k : ℕ) (s : List ℕ) (start end : ℕ) (r : Cut) : Type 0 where
+  pub prefix-is : place (r .prefix) ≡ prefix-cut k (between s start end)
+  pub unit-is : place (r .unit) ≡ unit-cut n k (between s start end)
+
+-- SLOTS
+
+-- slot k of a symbol's unit
+unfoldable pub slot-in : ℕ → spec.Symbol → BasePower
+slot-in k (known p u) = slot k (unit-at u)
+slot-in k (unknown p l) = unused

@@ -1,0 +1,26 @@
+// Spellings of units: constant tables of prefixes and known units, and the symbol that a spelling stands for.
+pub mod lookup;
+pub mod properties;
+pub mod spelling;
+pub mod tables;
+
+// What a spelling stands for.
+pub struct Symbol {
+    // Whether its unit is known.
+    pub known: bool,
+    // One more than the place of its prefix in the table of prefixes; 0 without a prefix.
+    pub prefix: u8,
+    // The row of a known unit in the table of units.
+    pub unit: u8,
+    // Where the letters of an unknown unit start and end in the label; 0 for a known one.
+    pub start: usize,
+    pub end: usize,
+}
+
+// A spelling cut behind its first letters.
+pub struct Cut {
+    // One more than the place of the prefix that these letters are; 0 where they are none or nothing follows them.
+    pub prefix: u8,
+    // One more than the row of the unit that the letters behind the prefix name; 0 where they name none.
+    pub unit: u8,
+}

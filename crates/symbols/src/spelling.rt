@@ -1,0 +1,63 @@
+// Spellings as bytes of a label: their keys, their comparison with a symbol of a table, their quotes.
+ghost use mathlib.Core.Path.{_≡_};
+ghost use Prim.Native.Nat.{_≤_, _-_};
+ghost use lib.ListN.{length};
+ghost use Rattle.label.specs.Ranges.{between};
+ghost use Rattle.symbols.specs.Keys.{key-of, agrees, most-letters};
+ghost use Rattle.symbols.specs.Sets.{has-bit};
+ghost use Rattle.symbols.specs.Views.{FirstQuote};
+
+// The bytes from `start` up to `end` as one number in base 256, the first byte highest.
+pub fn key(s: &[u8], start: usize, end: usize) -> u64
+    requires { ⌜ (start ≤ end) × (end ≤ length (now s)) ⌝ }
+    requires { ⌜ end - start ≤ most-letters ⌝ }
+    ensures { λ r. ⌜ r ≡ key-of (between (now (s .entry)) start end) ⌝ }
+{
+    let mut number: u64 = 0;
+    let mut i = start;
+    while i < end {
+        let byte = s[i] as u64;
+        number = number * 256 + byte;
+        i += 1;
+    }
+    number
+}
+
+// Whether a spelling of that size and key is a symbol of a table, of which size and key are given too.
+// This is the one place where a spelling is compared with a symbol.
+pub fn same_symbol(size: usize, number: u64, symbol_size: u8, symbol_number: u64) -> bool
+    ensures { λ r. ⌜ r ≡ agrees size number «symbol_size» «symbol_number» ⌝ }
+{
+    if number == symbol_number {
+        return size == symbol_size as usize;
+    }
+    false
+}
+
+// Whether `n` is a notation of the set.
+pub fn has_notation(n: u8, set: u8) -> bool
+    ensures { λ r. ⌜ r ≡ has-bit n set ⌝ }
+{
+    if n < 1 {
+        return false;
+    }
+    if 4 < n {
+        return false;
+    }
+    (set >> (n - 1)) % 2 == 1
+}
+
+// Where the first quote from `start` up to `end` stands, or `end`.
+pub fn first_quote(s: &[u8], start: usize, end: usize) -> usize
+    requires { ⌜ (start ≤ end) × (end ≤ length (now s)) ⌝ }
+    ensures { λ r. ⌜ FirstQuote (now (s .entry)) start end r ⌝ }
+{
+    let mut i = start;
+    while i < end {
+        if s[i] == b'\'' {
+            return i;
+        }
+        i += 1;
+    }
+    i
+}

@@ -1,21 +1,18 @@
 -- What stands between units, at a place of the text: one law for each way through the code.
 use Prim.Native.Nat.{ℕ, _≤_, _<_, _+_}
 use native.Mathlib.Omega.{arith}
-use mathlib.Core.Path.{_≡_, refl, sym, ap, _∙_}
-use mathlib.Core.Bool.{Bool, true, false, _&&_, _||_}
+use mathlib.Core.Path.{_≡_, sym, _∙_}
+use mathlib.Core.Bool.{Bool, true, false, _&&_}
 use mathlib.Core.List.{List, [], _∷_}
-use mathlib.Core.Option.{Option, none, some}
 use lib.Dec.{eqb}
 use lib.ListN.{length, drop, getD}
 use Rattle.label.specs.declared.Rules.{Rules}
-use Rattle.label.specs.Bytes.{past}
-use Rattle.label.specs.Parse.{Joint, stop, times, over, padded, spaced, joint-at, joint, leading-at, leading}
+use Rattle.label.specs.Parse.{padded, spaced, joint-at, joint, leading-at, leading}
 use Rattle.scan.specs.Runs.{Run, is-space}
 use Rattle.scan.proofs.Slices.{here, beyond}
 use Rattle.descent.specs.declared.joint.Joint.{Joint as Joined}
 use Rattle.descent.specs.declared.joint.Joint.the-variants.{Stop, Times, Over}
-use Rattle.descent.specs.declared.joint.Leading.{Leading}
-use Rattle.descent.specs.Joints.{separates, Pads, joint-in, Joins, Spaces, leading-by, Leads}
+use Rattle.descent.specs.Joints.{separates, Pads, Joins, Spaces, Leads}
 
 module _ {r : Rules} {s : List ℕ} {at : ℕ} where
   pub padded₁ : {e : ℕ} → r .spaces ≡ true → Run is-space s at e → Pads r s at e

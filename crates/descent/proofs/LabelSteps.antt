@@ -1,9 +1,9 @@
 -- The whole label: one law for each way through the code.
-use Prim.Native.Nat.{ℕ, _≤_, _<_, _+_, _*_, _-_}
+use Prim.Native.Nat.{ℕ, _≤_, _<_, _+_}
 use native.Mathlib.Omega.{arith}
 use mathlib.Core.Path.{_≡_, refl, sym, ap, _∙_}
 use mathlib.Core.Bool.{Bool, true, false, _&&_, not}
-use mathlib.Core.List.{List, [], _∷_, _++_}
+use mathlib.Core.List.{List, [], _∷_}
 use lib.Dec.{eqb}
 use lib.ListN.{length, drop, getD}
 use borrow.Author.Tests.{ne-eqb, not-true, not-false}
@@ -11,13 +11,11 @@ use Rattle.label.specs.declared.Rules.{Rules}
 use Rattle.label.specs.declared.WrittenFactor.{WrittenFactor}
 use Rattle.label.specs.declared.WrittenFactor.the-variants.{Absent}
 use Rattle.label.specs.Bytes.{digit}
-use Rattle.label.specs.Choice.{pick}
 use Rattle.label.specs.Limits.{most-bytes}
-use Rattle.label.specs.Lexical.{Factor, no-factor, Part, Kind, item, quotient}
-use Rattle.label.specs.Parse.{Found, none, found, factor, Parsed, refused, parsed, ended, one-space, gap, factored, label-by, fuel, read, parse-by}
+use Rattle.label.specs.Lexical.{no-factor, Part, Kind, item, quotient}
+use Rattle.label.specs.Parse.{Found, factor, Parsed, refused, parsed, ended, one-space, gap, factored, label-by, fuel, read, parse-by}
 use Rattle.label.specs.Ranges.{factor-in, FactorInside}
 use Rattle.label.proofs.Basics.{false-true}
-use Rattle.scan.specs.Founds.{found-by}
 use Rattle.scan.specs.Runs.{Run, is-space}
 use Rattle.scan.proofs.Slices.{here, beyond}
 use Rattle.tokens.specs.declared.factor.FactorAt.{FactorAt}
@@ -25,9 +23,9 @@ use Rattle.tokens.specs.Answers.{ReadsFactorBy}
 use Rattle.descent.specs.declared.terms.Terms.{Terms}
 use Rattle.descent.specs.declared.descent.Step.{Step}
 use Rattle.descent.specs.declared.whole.LabelRead.{LabelRead}
-use Rattle.descent.specs.Terms.{Empty, Holds}
-use Rattle.descent.specs.Steps.{Ready, Reads, rank, least, fuel-at, Stepped}
-use Rattle.descent.specs.Labels.{OneSpace, Gaps, parsed-by, Ended, Tells, ReadsFactored, ReadsLabel}
+use Rattle.descent.specs.Terms.{Empty}
+use Rattle.descent.specs.Steps.{Ready, rank, Stepped}
+use Rattle.descent.specs.Labels.{OneSpace, Gaps, Ended, Tells, ReadsFactored, ReadsLabel}
 use Rattle.descent.proofs.TermSteps.{holds-none}
 
 -- THE GAP BEHIND A FACTOR

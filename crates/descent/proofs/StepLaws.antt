@@ -1,18 +1,16 @@
 -- The steps of the descent: one law for each way through the code.
-use Prim.Native.Nat.{ℕ, zero, suc, _≤_, _<_, _-_, _+_, _*_}
+use Prim.Native.Nat.{ℕ, zero, suc, _≤_, _<_, _+_}
 use native.Mathlib.Omega.{arith}
 use mathlib.Core.Path.{_≡_, refl, sym, ap, _∙_}
 use mathlib.Core.Bool.{Bool, true, false, _&&_, not}
 use mathlib.Core.List.{List, [], _∷_, _++_, append-assoc, append-nil}
-use mathlib.Core.Option.{Option, none as nothing, some}
 use lib.Dec.{eqb}
 use lib.ListN.{length, drop, getD, length-drop}
 use borrow.Author.Tests.{ne-eqb, not-true, not-false}
 use Rattle.label.specs.declared.Rules.{Rules}
-use Rattle.label.specs.Choice.{pick}
-use Rattle.label.specs.Lexical.{Written, Part, Kind, item, more, product, quotient}
+use Rattle.label.specs.Lexical.{Part, Kind, item, more, product, quotient}
 use Rattle.label.specs.Limits.{exponent-of}
-use Rattle.label.specs.Parse.{Found, none, found, then, mapped, closed, spelling, exponent, unit, Joint, joint, leading, appended, chained, item-at, item-by, more-at, product-at, quotient-on, inside, read}
+use Rattle.label.specs.Parse.{Found, none, found, then, mapped, closed, spelling, exponent, unit, appended, chained, item-at, item-by, more-at, product-at, quotient-on, inside, read}
 use Rattle.label.specs.Ranges.{between, written-in}
 use Rattle.label.proofs.Basics.{false-true}
 use Rattle.scan.specs.Founds.{found-by}
@@ -22,17 +20,15 @@ use Rattle.scan.proofs.Slices.{here, beyond}
 use Rattle.tokens.specs.declared.power.PowerAt.{PowerAt}
 use Rattle.tokens.specs.Answers.{begins, ReadsExponent}
 use Rattle.tokens.proofs.PowerSteps.{byte-no-close, begins-room, close-found}
-use Rattle.tokens.proofs.Numbers.{mapped-by}
 use Rattle.values.specs.declared.powers.MaybeExponent.{MaybeExponent}
 use Rattle.values.specs.Given.{given}
-use Rattle.descent.specs.declared.terms.Term.{Term}
 use Rattle.descent.specs.declared.terms.Terms.{Terms}
 use Rattle.descent.specs.declared.joint.Joint.{Joint as Joined}
 use Rattle.descent.specs.declared.joint.Joint.the-variants.{Stop, Times, Over}
 use Rattle.descent.specs.declared.joint.Leading.{Leading}
 use Rattle.descent.specs.declared.descent.Step.{Step}
-use Rattle.descent.specs.Terms.{Pushed, placed-in, Holds}
-use Rattle.descent.specs.Joints.{Joins, leading-by, Leads}
+use Rattle.descent.specs.Terms.{Pushed}
+use Rattle.descent.specs.Joints.{Joins, Leads}
 use Rattle.descent.specs.Steps.{Ready, Reads, rank, least, fuel-at, Stepped, Chained, ReadsUnit, Closed}
 use Rattle.descent.proofs.TermSteps.{holds-more}
 

@@ -1,18 +1,17 @@
 -- One term more: the ways through the code, and what the terms then stand for.
-use Prim.Native.Nat.{ℕ, _≤_, _<_, _+_, _-_}
+use Prim.Native.Nat.{ℕ, _≤_, _<_, _+_}
 use native.Mathlib.Omega.{arith}
 use native.Mathlib.Numerals.{add-one}
 use mathlib.Core.Path.{_≡_, refl, sym, ap, _∙_}
 use mathlib.Core.Bool.{Bool, true, false, _||_, not}
-use mathlib.Core.List.{List, [], _∷_, _++_, map, map-append, append-nil}
+use mathlib.Core.List.{List, [], _∷_, _++_, map, map-append}
 use mathlib.Core.Option.{Option, none, some}
-use lib.ListN.{length, take, drop, set, length-set, length-append, length-drop}
+use lib.ListN.{length, take, set, length-set, length-append}
 use lib.Seq.{take-suc-set}
 use Rattle.label.specs.declared.Exponent.{Exponent}
 use Rattle.label.specs.Lexical.{Part}
 use Rattle.label.specs.Limits.{exponent-of}
 use Rattle.label.specs.Split.{Placed, valued-unit, valued-units}
-use Rattle.label.specs.Ranges.{between}
 use Rattle.label.proofs.Basics.{false-true}
 use Rattle.values.specs.Given.{given}
 use Rattle.descent.specs.declared.terms.Term.{Term}

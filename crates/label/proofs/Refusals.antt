@@ -65,7 +65,7 @@ pub data Values : List Part → List Placed → Type 0 where
   value : {p : Part} {ps : List Part} {us : List Placed} {e : Exponent} → exponent-of (p .turned) (p .power) ≡ some e → Values ps us
       → Values (p ∷ ps) (record { spelling = p .spelling; exponent = e; left = p .left } ∷ us)
 
-units-values : (ps : List Part) (us : List Placed) → valued-units ps ≡ some us → Values ps us
+pub units-values : (ps : List Part) (us : List Placed) → valued-units ps ≡ some us → Values ps us
 unfolding valued-units valued-unit
 units-values [] us h = let q : [] ≡ us = cc in rw (← q) Values.no-values
 units-values (p ∷ ps) us h = go (exponent-of (p .turned) (p .power)) (valued-units ps) refl (λ vs. units-values ps vs) refl h
@@ -88,7 +88,7 @@ valued-values f ps v h = go (k-of f) (valued-units ps) refl h
     go (some k) (some us) q h = units-values ps (v .units) (q ∙ ap (λ (x : List Placed). some x) (cc))
 
 -- as many units as parts
-values-length : {ps : List Part} {us : List Placed} → Values ps us → length us ≡ length ps
+pub values-length : {ps : List Part} {us : List Placed} → Values ps us → length us ≡ length ps
 values-length Values.no-values = refl
 values-length (Values.value e v) = ap suc (values-length v)
 

@@ -2,6 +2,7 @@
 use label::Exponent;
 use symbols::Symbol;
 
+#[repr(C)]
 pub struct Term {
     // What its spelling stands for.
     pub symbol: Symbol,

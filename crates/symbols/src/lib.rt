@@ -5,6 +5,7 @@ pub mod spelling;
 pub mod tables;
 
 // What a spelling stands for.
+#[repr(C)]
 pub struct Symbol {
     // Whether its unit is known.
     pub known: bool,

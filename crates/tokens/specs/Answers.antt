@@ -1,12 +1,12 @@
 -- What the functions over words answer, in terms of the text from a place on.
 use Prim.Native.Nat.{ℕ, _≤_, _+_}
 use mathlib.Core.Path.{_≡_}
-use mathlib.Core.Bool.{Bool, true, false}
+use mathlib.Core.Bool.{Bool, false}
 use mathlib.Core.List.{List, [], _∷_}
 use lib.Dec.{eqb}
 use lib.ListN.{length, drop}
 use Rattle.label.specs.Lexical.{Numeral, Written, decimal, fraction, Factor, ten-to}
-use Rattle.label.specs.Parse.{Found, none, found, closed, bracketed-on, starred, exponent, plain-factor, wrapped, starred-factor, ten-factor, factor}
+use Rattle.label.specs.Parse.{Found, closed, bracketed-on, starred, exponent, plain-factor, wrapped, starred-factor, ten-factor, factor}
 use Rattle.label.specs.Ranges.{between, digits-in, numeral-in, written-in, factor-in, Inside, PowerInside, FactorInside}
 use Rattle.label.specs.declared.Rules.{Rules}
 use Rattle.label.specs.declared.SignedDigits.{SignedDigits}

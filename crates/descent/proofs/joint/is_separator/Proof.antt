@@ -1,5 +1,4 @@
 use mathlib.Core.Path.{sym, _∙_}
-use native.Mathlib.Omega.{arith}
 use borrow.Author.Needs.{needs}
 use Rattle.descent.proofs.joint.is_separator.Statement.{statement}
 use Rattle.descent.proofs.joint.is_separator.Tie as tie

@@ -1,5 +1,5 @@
 use native.Mathlib.Omega.{arith}
-use Rattle.descent.proofs.LabelSteps.{factored₁, factored₂, ready-first}
+use Rattle.descent.proofs.LabelSteps.{factored₁, factored₂}
 use borrow.Author.Needs.{needs}
 use Rattle.descent.proofs.whole.factored.Statement.{statement}
 use Rattle.descent.proofs.whole.factored.Tie as tie

@@ -1,5 +1,5 @@
 use native.Mathlib.Omega.{arith}
-use Rattle.descent.proofs.LabelSteps.{label₁, label₂, label₃, label₄, label₅, ready-first}
+use Rattle.descent.proofs.LabelSteps.{label₁, label₂, label₃, label₄, label₅}
 use borrow.Author.Needs.{needs}
 use Rattle.descent.proofs.whole.read_label.Statement.{statement}
 use Rattle.descent.proofs.whole.read_label.Tie as tie

@@ -1,6 +1,6 @@
 -- `scan::class::is_letter` meets its contract.
 use borrow.Author.Needs.{needs}
-use mathlib.Core.Path.{_≡_, sym, _∙_}
+use mathlib.Core.Path.{sym, _∙_}
 use Rattle.label.specs.Bytes.{letter}
 use Rattle.scan.proofs.class.is_letter.Statement.{statement}
 use Rattle.scan.proofs.class.is_letter.Tie as tie

@@ -1,0 +1,84 @@
+// The limits and the grammar: refusals 1 to 7, or the label's values.
+use crate::bytes::all_admitted;
+use crate::notation::is_notation;
+use crate::notation::rules;
+use descent::terms::Terms;
+use descent::terms::no_terms;
+use descent::whole::LabelRead;
+use descent::whole::read_label;
+use label::Tens;
+use values::brackets::deepest;
+use values::factors::factor;
+ghost use mathlib.Core.Path.{_≡_};
+ghost use Rattle.label.specs.Ranges.{FactorInside};
+ghost use Rattle.reading.specs.Checks.{Rejects, ChecksValues, Checks};
+
+// What a label says, or the number of the first refusal that is due.
+pub struct Checked {
+    pub ok: bool,
+    pub number: u8,
+    pub k: Tens,
+    pub terms: Terms,
+}
+
+// Refusal `i`.
+pub fn rejected(i: u8) -> Checked
+    ensures { λ r. ⌜ Rejects i r ⌝ }
+{
+    let terms = no_terms();
+    Checked {
+        ok: false,
+        number: i,
+        k: Tens(0),
+        terms,
+    }
+}
+
+// Refusals 5 to 7 of a label that is in the grammar.
+pub fn check_values(s: &[u8], o: LabelRead) -> Checked
+    requires { ⌜ FactorInside (now s) (o .factor) ⌝ }
+    ensures { λ r. ⌜ ChecksValues (now (s .entry)) o r ⌝ }
+{
+    let written = o.factor;
+    let terms = o.terms;
+    let f = factor(s, written);
+    if !f.ok {
+        return rejected(5);
+    }
+    if terms.broken {
+        return rejected(5);
+    }
+    if deepest(s) > 8 {
+        return rejected(6);
+    }
+    if terms.count > 32 {
+        return rejected(7);
+    }
+    let k = f.k;
+    Checked {
+        ok: true,
+        number: 0,
+        k,
+        terms,
+    }
+}
+
+// Refusals 1 to 7.
+pub fn check(n: u32, s: &[u8]) -> Checked
+    ensures { λ r. ⌜ Checks n (now (s .entry)) r ⌝ }
+{
+    if !is_notation(n) {
+        return rejected(1);
+    }
+    if s.len() > 255 {
+        return rejected(2);
+    }
+    if !all_admitted(s) {
+        return rejected(3);
+    }
+    let o = read_label(rules(n), s);
+    if !o.ok {
+        return rejected(4);
+    }
+    check_values(s, o)
+}

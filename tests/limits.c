@@ -1,0 +1,145 @@
+/* Reads labels at each limit and one past it, and compares the answers' numbers, counts of terms and powers of ten. */
+#include <stdio.h>
+#include <string.h>
+#include "../include/thalinguze.h"
+
+static int tried, wrong;
+
+static void expect_bytes(uint32_t notation, const uint8_t *text, size_t size, unsigned number, size_t count, int k)
+{
+    struct thalinguze_reading r = thalinguze_read(notation, text, size);
+    tried++;
+    if (r.number == number && r.count == count && r.k == k)
+        return;
+    wrong++;
+    printf("notation %u, %zu bytes, %.*s: %u, %zu terms, k %d; not %u, %zu, %d\n", notation, size, (int)size, (const char *)text,
+           r.number, r.count, r.k, number, count, k);
+}
+
+static void expect(uint32_t notation, const char *text, unsigned number, size_t count, int k)
+{
+    expect_bytes(notation, (const uint8_t *)text, strlen(text), number, count, k);
+}
+
+/* so many times a text, one behind the other */
+static const char *times(int n, const char *text)
+{
+    static char made[4096];
+    made[0] = 0;
+    for (int i = 0; i < n; i++)
+        strcat(made, text);
+    return made;
+}
+
+static const char *joined(const char *a, const char *b, const char *c)
+{
+    static char made[4096];
+    snprintf(made, sizeof made, "%s%s%s", a, b, c);
+    return made;
+}
+
+/* the letters m, joined by a separator */
+static const char *terms(int n, const char *separator)
+{
+    static char made[4096];
+    strcpy(made, "m");
+    for (int i = 1; i < n; i++) {
+        strcat(made, separator);
+        strcat(made, "m");
+    }
+    return made;
+}
+
+static const char *nested(int n)
+{
+    static char opened[512], made[1024];
+    strcpy(opened, times(n, "("));
+    snprintf(made, sizeof made, "%sm%s", opened, times(n, ")"));
+    return made;
+}
+
+int main(void)
+{
+    const char *const separators[] = {"", ".", " ", ".", "."};
+    /* notation numbers */
+    expect(0, "m", 1, 0, 0);
+    expect(5, "m", 1, 0, 0);
+    expect(UINT32_MAX, "m", 1, 0, 0);
+    expect(257, "m", 1, 0, 0);
+    for (uint32_t n = 1; n <= 4; n++) {
+        expect(n, "", 0, 0, 0);
+        expect_bytes(n, NULL, 0, 0, 0, 0);
+        expect(n, "m", 0, 1, 0);
+        /* bytes */
+        expect(n, times(255, "m"), 0, 1, 0);
+        expect(n, times(256, "m"), 2, 0, 0);
+        expect(n, times(256, "\n"), 2, 0, 0);
+        expect(n, "m\n", 3, 0, 0);
+        expect(n, "m\x7f", 3, 0, 0);
+        expect(n, "m\xff", 3, 0, 0);
+        expect_bytes(n, (const uint8_t *)"m\0m", 3, 3, 0, 0);
+        expect(n, "m~", 4, 0, 0);
+        /* terms */
+        expect(n, terms(32, separators[n]), 0, 32, 0);
+        expect(n, terms(33, separators[n]), 7, 0, 0);
+        /* brackets */
+        expect(n, nested(8), 0, 1, 0);
+        expect(n, nested(9), 6, 0, 0);
+        expect(n, nested(127), 6, 0, 0);
+        expect(n, joined(times(127, "("), "m", ""), 4, 0, 0);
+    }
+    /* exponents: 99 and 100, and digit runs of 4 and 5 */
+    const char *const power[] = {"", "**", "**", "", "**"};
+    for (uint32_t n = 1; n <= 4; n++) {
+        expect(n, joined("m", power[n], "99"), 0, 1, 0);
+        expect(n, joined("m", power[n], "100"), 5, 0, 0);
+        expect(n, joined("m", power[n], "-99"), 0, 1, 0);
+        expect(n, joined("m", power[n], "-100"), 5, 0, 0);
+        expect(n, joined("m", power[n], "9999"), 5, 0, 0);
+        expect(n, joined("m", power[n], "99999"), 5, 0, 0);
+        expect(n, joined("m", power[n], "0"), 4, 0, 0);
+        expect(n, joined("m", power[n], "01"), 4, 0, 0);
+    }
+    expect(1, "m(99.5)", 5, 0, 0);
+    expect(1, "m(1/7)", 5, 0, 0);
+    expect(1, "m(7/14)", 0, 1, 0);
+    expect(1, "m**(9999/9999)", 0, 1, 0);
+    expect(1, "m**(99990/99990)", 5, 0, 0);
+    expect(1, "m(1.0000)", 0, 1, 0);
+    expect(1, "m(1.00000)", 5, 0, 0);
+    for (uint32_t n = 2; n <= 4; n += 2) {
+        expect(n, "m**(1.0000)", 0, 1, 0);
+        expect(n, "m**(1.00000)", 5, 0, 0);
+        expect(n, "m**(9999/9999)", 0, 1, 0);
+        expect(n, "m**(10000/10000)", 5, 0, 0);
+        expect(n, "m**(1/7)", 5, 0, 0);
+        expect(n, "m**(99.5)", 5, 0, 0);
+    }
+    /* 5 before 6, and 6 before 7 */
+    expect(1, joined("(((((((((m(1/7)", times(9, ")"), ""), 5, 0, 0);
+    expect(4, joined("(((((((((", terms(33, "."), ")))))))))"), 6, 0, 0);
+    /* factors: k 99 and 100 in every form */
+    expect(1, "10**99m", 0, 1, 99);
+    expect(1, "10**100m", 5, 0, 0);
+    expect(1, "10^99m", 0, 1, 99);
+    expect(1, "10^-99m", 0, 1, -99);
+    expect(1, "10^100m", 5, 0, 0);
+    expect(1, "10+99m", 0, 1, 99);
+    expect(1, "10+100m", 5, 0, 0);
+    expect(1, "10-100m", 5, 0, 0);
+    expect(2, "10**99m", 0, 1, 99);
+    expect(2, "10**(-99) m", 0, 1, -99);
+    expect(2, "10**(-100) m", 5, 0, 0);
+    expect(3, "10+99m", 0, 1, 99);
+    expect(3, "10-99m", 0, 1, -99);
+    expect(3, "10+100m", 5, 0, 0);
+    expect(4, "10**99m", 0, 1, 99);
+    expect(4, "10**100m", 5, 0, 0);
+    for (uint32_t n = 2; n <= 4; n++) {
+        expect(n, joined("1", times(99, "0"), "m"), 0, 1, 99);
+        expect(n, joined("1", times(100, "0"), "m"), 5, 0, 0);
+        expect(n, joined("1", times(253, "0"), "m"), 5, 0, 0);
+    }
+    printf("%d labels at the limits, %d differ\n", tried, wrong);
+    return wrong != 0;
+}

@@ -1,0 +1,32 @@
+/* How long reading takes, for each of ten labels. Prints figures; it judges nothing. */
+#include <stdio.h>
+#include <string.h>
+#include <time.h>
+#include "../include/thalinguze.h"
+
+int main(void)
+{
+    static const struct {
+        uint32_t notation;
+        const char *text;
+    } labels[] = {
+        {1, "m"}, {1, "km"}, {3, "kg/m.s"}, {1, "erg/(s cm2)"}, {3, "10+3J/m/s/kpc2"}, {2, "erg/pixel/s/GHz"}, {2, "10**(-3) count s**-1"},
+        {4, "solMass.pc**-3"}, {2, "erg/cm**2/s"}, {1, "((((((((m))))))))"},
+    };
+    const int rounds = 200000;
+    volatile uint8_t sink = 0;
+    for (size_t i = 0; i < sizeof labels / sizeof labels[0]; i++) {
+        const uint8_t *text = (const uint8_t *)labels[i].text;
+        size_t size = strlen(labels[i].text);
+        struct timespec a, b;
+        clock_gettime(CLOCK_MONOTONIC, &a);
+        for (int j = 0; j < rounds; j++) {
+            struct thalinguze_reading r = thalinguze_read(labels[i].notation, text, size);
+            sink = (uint8_t)(sink + r.number);
+        }
+        clock_gettime(CLOCK_MONOTONIC, &b);
+        double ns = ((double)(b.tv_sec - a.tv_sec) * 1e9 + (double)(b.tv_nsec - a.tv_nsec)) / rounds;
+        printf("%u %-22s %6.0f ns, number %u\n", labels[i].notation, labels[i].text, ns, thalinguze_read(labels[i].notation, text, size).number);
+    }
+    return 0;
+}

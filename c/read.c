@@ -37,7 +37,7 @@ int main(int argc, char **argv)
         if (t->symbol.known)
             printf("%s%s", prefix, units[t->symbol.unit]);
         else
-            printf("%sunknown %.*s", prefix, (int)(t->symbol.end - t->symbol.start), text + t->symbol.start);
+            printf("unknown %.*s%s%s", (int)(t->symbol.end - t->symbol.start), text + t->symbol.start, *prefix ? " with prefix " : "", prefix);
         int64_t a = common_with_sixty(t->exponent);
         if (t->exponent != 60)
             printf(" to the %lld", (long long)(t->exponent / a));

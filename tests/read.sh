@@ -22,6 +22,7 @@ for n in fits:'kg/(m s)' ogip:'kg/(m s)' cds:'kg/(m.s)' vounits:'kg/(m.s)'; do
 done
 says cds '10+3pix/h' 'ten to the 3, pixel, h to the -1, known, lawful, recommended'
 says fits 'm(3/2)' 'm to the 3/2, known, lawful, recommended'
-says fits 'furlong' 'unknown furlong, not known, lawful, not recommended'
+says vounits "'furlong'" 'unknown furlong, not known, lawful, not recommended'
+says fits 'furlong' 'unknown urlong with prefix f, not known, lawful, not recommended'
 says iso 'm' 'refused, 1: no such notation'
 echo 'the program that reads one label says what README.md says'

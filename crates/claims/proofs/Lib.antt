@@ -1,1 +1,2 @@
+pub mod Sixtieths
 pub mod Proved

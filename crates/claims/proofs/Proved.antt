@@ -4,7 +4,8 @@ use Rattle.label.proofs.Cuts.{at-most-one}
 use Rattle.label.proofs.Derivations.{derived-parsed, parsed-derived, refused-underived, underived-refused, same-derivation}
 use Rattle.label.proofs.Readings.{number-refused, refused-reading, number-accepted, accepted-gives, same-split}
 use Rattle.label.specs.Samples.{SamplesHold}
-use Rattle.claims.specs.Claims.{ParseIsTheGrammar, ParseRefusesTheRest, Unambiguous, RefusalsAreTheConditions, RefusalsAreEmpty, ZeroIsAcceptance, AcceptedContent, AtMostOneKnownRest, GrammarsAgree, NotationsAgree}
+use Rattle.claims.proofs.Sixtieths.{whole-divides, divides-whole}
+use Rattle.claims.specs.Claims.{ParseIsTheGrammar, ParseRefusesTheRest, Unambiguous, RefusalsAreTheConditions, RefusalsAreEmpty, ZeroIsAcceptance, AcceptedContent, AtMostOneKnownRest, SixtiethsAreTheBound, GrammarsAgree, NotationsAgree}
 
 pub parse-is-the-grammar : ParseIsTheGrammar
 parse-is-the-grammar n s f ps = ((λ h. parsed-derived n s f ps h), (λ d. derived-parsed d))
@@ -29,6 +30,9 @@ accepted-content n s x a = accepted-gives a
 
 pub at-most-one-known-rest : AtMostOneKnownRest
 at-most-one-known-rest n e l = at-most-one n e l
+
+pub sixtieths-are-the-bound : SixtiethsAreTheBound
+sixtieths-are-the-bound r p q w = ((λ e. whole-divides r p q w e), (λ d. divides-whole r p q w d))
 
 pub grammars-agree : GrammarsAgree
 grammars-agree n m s f g ps qs d e = same-derivation d e

@@ -1,5 +1,5 @@
 -- The page of claims. Each is stated here, in the words of the crate label's specs/, and proved in proofs/Proved.antt.
-use Prim.Native.Nat.{ℕ, _≤_}
+use Prim.Native.Nat.{ℕ, _≤_, _*_}
 use mathlib.Core.Path.{_≡_}
 use mathlib.Core.Bool.{true}
 use mathlib.Core.List.{List}
@@ -10,6 +10,7 @@ use Rattle.label.specs.Symbols.{known-cuts}
 use Rattle.label.specs.Lexical.{Factor, Part}
 use Rattle.label.specs.Grammar.{Derives}
 use Rattle.label.specs.Parse.{refused, parsed, parse}
+use Rattle.label.specs.Limits.{Ratio, parts-of-one, in-sixtieths}
 use Rattle.label.specs.Split.{Split, Refused, Accepts}
 use Rattle.label.specs.Reading.{refusal, reading}
 use Rattle.label.specs.Agreement.{Gives}
@@ -47,6 +48,19 @@ AcceptedContent = (n : ℕ) (s : List ℕ) (x : Split) → Accepts n s x → Giv
 -- "At most one split has a known rest."
 abbrev pub AtMostOneKnownRest : Type 0
 AtMostOneKnownRest = (n : ℕ) → notation n ≡ true → (l : List ℕ) → length (known-cuts n l) ≤ 1
+
+-- a/b is p/q in lowest terms: no fraction equal to a/b has a smaller denominator
+pub record LowestTerms (a b p q : ℕ) : Type 0 where
+  pub equal : p * b ≡ a * q
+  pub positive : 1 ≤ q
+  pub least : (x y : ℕ) → 1 ≤ y → x * b ≡ a * y → q ≤ y
+
+-- "An exponent in lowest terms has a denominator that divides 60": it is a whole number of sixtieths.
+abbrev pub SixtiethsAreTheBound : Type 0
+SixtiethsAreTheBound =
+    (r : Ratio) (p q : ℕ)
+    → LowestTerms (r .numerator) (r .denominator) p q
+    → (in-sixtieths r ≡ true) ↔ ((t : ℕ) × (t * q ≡ parts-of-one))
 
 -- DEMAND 3
 

@@ -16,6 +16,7 @@ ghost use mathlib.Core.Path.{_≡_};
 ghost use lib.ListN.{length};
 ghost use Rattle.symbols.specs.Columns.{NameColumns, PrefixColumns};
 ghost use Rattle.descent.specs.Terms.{InLabel, AllIn};
+ghost use Rattle.reading.specs.Views.{no-term};
 ghost use Rattle.reading.specs.Named.{Named, AllNamed};
 
 // A unit of a label as notation `n` reads its spelling.
@@ -59,7 +60,9 @@ pub fn named(
 }
 
 // What stands behind the last term.
-pub fn no_term() -> Term {
+pub fn no_term() -> Term
+    ensures { λ r. ⌜ r ≡ no-term ⌝ }
+{
     let symbol = Symbol {
         known: false,
         prefix: 0,

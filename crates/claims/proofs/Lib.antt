@@ -1,2 +1,3 @@
 pub mod Sixtieths
+pub mod Lowest
 pub mod Proved

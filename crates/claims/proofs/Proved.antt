@@ -4,8 +4,9 @@ use Rattle.label.proofs.Cuts.{at-most-one}
 use Rattle.label.proofs.Derivations.{derived-parsed, parsed-derived, refused-underived, underived-refused, same-derivation}
 use Rattle.label.proofs.Readings.{number-refused, refused-reading, number-accepted, accepted-gives, same-split}
 use Rattle.label.specs.Samples.{SamplesHold}
+use Rattle.claims.proofs.Lowest.{lowest}
 use Rattle.claims.proofs.Sixtieths.{whole-divides, divides-whole}
-use Rattle.claims.specs.Claims.{ParseIsTheGrammar, ParseRefusesTheRest, Unambiguous, RefusalsAreTheConditions, RefusalsAreEmpty, ZeroIsAcceptance, AcceptedContent, AtMostOneKnownRest, SixtiethsAreTheBound, GrammarsAgree, NotationsAgree}
+use Rattle.claims.specs.Claims.{ParseIsTheGrammar, ParseRefusesTheRest, Unambiguous, RefusalsAreTheConditions, RefusalsAreEmpty, ZeroIsAcceptance, AcceptedContent, AtMostOneKnownRest, SixtiethsAreTheBound, ShownInLowestTerms, GrammarsAgree, NotationsAgree}
 
 pub parse-is-the-grammar : ParseIsTheGrammar
 parse-is-the-grammar n s f ps = ((λ h. parsed-derived n s f ps h), (λ d. derived-parsed d))
@@ -33,6 +34,9 @@ at-most-one-known-rest n e l = at-most-one n e l
 
 pub sixtieths-are-the-bound : SixtiethsAreTheBound
 sixtieths-are-the-bound r p q w = ((λ e. whole-divides r p q w e), (λ d. divides-whole r p q w d))
+
+pub shown-in-lowest-terms : ShownInLowestTerms
+shown-in-lowest-terms e = lowest e
 
 pub grammars-agree : GrammarsAgree
 grammars-agree n m s f g ps qs d e = same-derivation d e

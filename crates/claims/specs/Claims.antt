@@ -4,13 +4,15 @@ use mathlib.Core.Path.{_≡_}
 use mathlib.Core.Bool.{true}
 use mathlib.Core.List.{List}
 use mathlib.Core.Logic.{_↔_}
+use lib.IntN.{natAbs}
 use lib.ListN.{length}
+use Rattle.label.specs.declared.Exponent.{Exponent}
 use Rattle.label.specs.Notations.{notation}
 use Rattle.label.specs.Symbols.{known-cuts}
 use Rattle.label.specs.Lexical.{Factor, Part}
 use Rattle.label.specs.Grammar.{Derives}
 use Rattle.label.specs.Parse.{refused, parsed, parse}
-use Rattle.label.specs.Limits.{Ratio, parts-of-one, in-sixtieths}
+use Rattle.label.specs.Limits.{Ratio, parts-of-one, in-sixtieths, lowest-terms}
 use Rattle.label.specs.Split.{Split, Refused, Accepts}
 use Rattle.label.specs.Reading.{refusal, reading}
 use Rattle.label.specs.Agreement.{Gives}
@@ -61,6 +63,12 @@ SixtiethsAreTheBound =
     (r : Ratio) (p q : ℕ)
     → LowestTerms (r .numerator) (r .denominator) p q
     → (in-sixtieths r ≡ true) ↔ ((t : ℕ) × (t * q ≡ parts-of-one))
+
+-- An exponent is shown in lowest terms.
+abbrev pub ShownInLowestTerms : Type 0
+ShownInLowestTerms =
+    (e : Exponent)
+    → LowestTerms (natAbs (e .0)) parts-of-one (natAbs (lowest-terms e .numerator)) (lowest-terms e .denominator)
 
 -- DEMAND 3
 

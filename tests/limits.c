@@ -118,23 +118,26 @@ int main(void)
     /* 5 before 6, and 6 before 7 */
     expect(1, joined("(((((((((m(1/7)", times(9, ")"), ""), 5, 0, 0);
     expect(4, joined("(((((((((", terms(33, "."), ")))))))))"), 6, 0, 0);
-    /* factors: k 99 and 100 in every form */
-    expect(1, "10**99m", 0, 1, 99);
-    expect(1, "10**100m", 5, 0, 0);
-    expect(1, "10^99m", 0, 1, 99);
-    expect(1, "10^-99m", 0, 1, -99);
-    expect(1, "10^100m", 5, 0, 0);
-    expect(1, "10+99m", 0, 1, 99);
-    expect(1, "10+100m", 5, 0, 0);
-    expect(1, "10-100m", 5, 0, 0);
-    expect(2, "10**99m", 0, 1, 99);
-    expect(2, "10**(-99) m", 0, 1, -99);
-    expect(2, "10**(-100) m", 5, 0, 0);
-    expect(3, "10+99m", 0, 1, 99);
-    expect(3, "10-99m", 0, 1, -99);
-    expect(3, "10+100m", 5, 0, 0);
-    expect(4, "10**99m", 0, 1, 99);
-    expect(4, "10**100m", 5, 0, 0);
+    /* factors: k 99 and 100 under each sign, in every form that the notation has */
+    static const struct {
+        uint32_t notation;
+        const char *before, *after;
+        int unsigned_too;
+    } forms[] = {
+        {1, "10**", "m", 1}, {1, "10**(", ")m", 1}, {1, "10^", "m", 1}, {1, "10^(", ")m", 1}, {1, "10", "m", 0},
+        {2, "10**", "m", 1}, {2, "10**(", ")m", 1}, {2, "10**(", ") m", 1}, {3, "10**", "m", 1}, {3, "10", "m", 0},
+        {4, "10**", "m", 1}, {4, "10**(", ")m", 1},
+    };
+    for (size_t i = 0; i < sizeof forms / sizeof forms[0]; i++) {
+        if (forms[i].unsigned_too) {
+            expect(forms[i].notation, joined(forms[i].before, "99", forms[i].after), 0, 1, 99);
+            expect(forms[i].notation, joined(forms[i].before, "100", forms[i].after), 5, 0, 0);
+        }
+        expect(forms[i].notation, joined(forms[i].before, "+99", forms[i].after), 0, 1, 99);
+        expect(forms[i].notation, joined(forms[i].before, "+100", forms[i].after), 5, 0, 0);
+        expect(forms[i].notation, joined(forms[i].before, "-99", forms[i].after), 0, 1, -99);
+        expect(forms[i].notation, joined(forms[i].before, "-100", forms[i].after), 5, 0, 0);
+    }
     for (uint32_t n = 2; n <= 4; n++) {
         expect(n, joined("1", times(99, "0"), "m"), 0, 1, 99);
         expect(n, joined("1", times(100, "0"), "m"), 5, 0, 0);

@@ -6,7 +6,8 @@ use mathlib.Core.Bool.{Bool, true, false, not}
 use mathlib.Core.List.{List}
 use mathlib.Core.Option.{Option, none, some}
 use lib.ListN.{length}
-use borrow.Author.Tests.{le-leb, lt-leb, not-true, not-false}
+use lib.Dec.{leb, eqb}
+use borrow.Author.Tests.{leb-true, leb-false, le-leb, lt-leb, not-true, not-false}
 use Rattle.label.specs.declared.Rules.{Rules}
 use Rattle.label.specs.declared.Tens.{Tens}
 use Rattle.label.specs.Bytes.{admitted, all}
@@ -26,7 +27,7 @@ use Rattle.descent.specs.declared.whole.LabelRead.{LabelRead}
 use Rattle.descent.specs.Terms.{is-none, Holds}
 use Rattle.descent.specs.Labels.{parsed-by, ReadsLabel}
 use Rattle.reading.specs.declared.check.Checked.{Checked}
-use Rattle.reading.specs.Checks.{units-in, checked-by, Rejects, ChecksValues, Checks}
+use Rattle.reading.specs.Checks.{due, units-in, checked-by, Rejects, ChecksValues, Checks}
 use Rattle.reading.proofs.Notations.{notation-small}
 
 rejects : {i : ℕ} {r : Checked} → Rejects i r → (k : Tens) (us : List Placed) → checked-by (r .ok) (r .number) k us ≡ refuse i
@@ -65,48 +66,65 @@ there none e = absurd (false-true (sym e))
 there (some vs) e = (vs, refl)
 
 module _ (f : MaybeTens) (s : List ℕ) (o : LabelRead) (q : given (f .ok) (f .k) ≡ k-of (factor-in s (o .factor))) where
+  -- the answer with this number
+  abbrev with-number : ℕ → Checked
+  with-number i = record { ok = eqb i 0; number = i; k = f .k; terms = o .terms }
+
   -- a refused label keeps its promises about what is accepted
-  refusing : {i : ℕ} {r : Checked} → Rejects i r → ((ps : List Part) → Holds s (o .terms) ps → check-values s (valued (factor-in s (o .factor)) ps) ≡ refuse i)
-      → ChecksValues s o r
-  refusing {i} {r} w e = record {
-    is = λ ps h. e ps h ∙ sym (rejects w (r .k) (units-in s (r .terms)));
-    few = λ t. absurd (false-true (sym (w .refused) ∙ t));
-    same = λ t. absurd (false-true (sym (w .refused) ∙ t));
+  refusing : {i : ℕ} → eqb i 0 ≡ false → ((ps : List Part) → Holds s (o .terms) ps → check-values s (valued (factor-in s (o .factor)) ps) ≡ refuse i)
+      → ChecksValues s o (with-number i)
+  refusing z e = record {
+    is = λ ps h. rw z (e ps h);
+    few = λ t. absurd (false-true (sym z ∙ t));
+    same = λ t. absurd (false-true (sym z ∙ t));
   }
 
-  pub values₁ : {r : Checked} → not (f .ok) ≡ true → Rejects 5 r → ChecksValues s o r
+  values₁ : f .ok ≡ false → ChecksValues s o (with-number 5)
   unfolding valued
-  values₁ t w = refusing w (λ ps h. rw (← q, not-true (f .ok) t) (no-values s (valued-units ps)))
+  values₁ t = refusing refl (λ ps h. rw (← q, t) (no-values s (valued-units ps)))
 
-  module _ (t : not (f .ok) ≡ false) where
+  module _ (t : f .ok ≡ true) where
     with-k : (ps : List Part) → valued (factor-in s (o .factor)) ps ≡ valued-with (some (f .k)) (valued-units ps)
     unfolding valued
-    with-k ps = rw (← q, not-false (f .ok) t)
+    with-k ps = rw (← q, t)
 
-    pub values₂ : {r : Checked} → o .terms .broken ≡ true → Rejects 5 r → ChecksValues s o r
-    values₂ b w = refusing w (λ ps h. rw (with-k ps) (broken-units s (f .k) (valued-units ps) (sym (h .broken) ∙ b)))
+    values₂ : o .terms .broken ≡ true → ChecksValues s o (with-number 5)
+    values₂ b = refusing refl (λ ps h. rw (with-k ps) (broken-units s (f .k) (valued-units ps) (sym (h .broken) ∙ b)))
 
     module _ (b : o .terms .broken ≡ false) where
-      pub values₃ : {x : ℕ} {r : Checked} → x ≡ deepest s → 8 < x → Rejects 6 r → ChecksValues s o r
-      values₃ e g w = refusing w (λ ps h. rw (with-k ps) (deep-units s (f .k) (valued-units ps) (sym (h .broken) ∙ b) (rw (← e) g)))
+      values₃ : most-brackets < deepest s → ChecksValues s o (with-number 6)
+      values₃ g = refusing refl (λ ps h. rw (with-k ps) (deep-units s (f .k) (valued-units ps) (sym (h .broken) ∙ b) g))
 
-      module _ {x : ℕ} (e : x ≡ deepest s) (g : x ≤ 8) where
-        shallow : deepest s ≤ most-brackets
-        shallow = rw (← e) g
-
-        pub values₄ : {r : Checked} → 32 < o .terms .count → Rejects 7 r → ChecksValues s o r
-        values₄ l w = refusing w (λ ps h. (
+      module _ (g : deepest s ≤ most-brackets) where
+        values₄ : 32 < o .terms .count → ChecksValues s o (with-number 7)
+        values₄ l = refusing refl (λ ps h. (
             let v = there (valued-units ps) (sym (h .broken) ∙ b) in
-            rw (with-k ps, v .1) (many-units s (f .k) (v .0) shallow (omega (arith, l, h .count, as-many ps (v .0) (v .1))))))
+            rw (with-k ps, v .1) (many-units s (f .k) (v .0) g (omega (arith, l, h .count, as-many ps (v .0) (v .1))))))
 
-        pub values₅ : o .terms .count ≤ 32 → ChecksValues s o (record { ok = true; number = 0; k = f .k; terms = o .terms })
+        values₅ : o .terms .count ≤ 32 → ChecksValues s o (with-number 0)
         values₅ l = record { is = λ ps h. accepts ps h; few = λ t. l; same = λ t. refl }
           where
             accepts : (ps : List Part) → Holds s (o .terms) ps
                 → check-values s (valued (factor-in s (o .factor)) ps) ≡ accept (record { k = f .k; units = units-in s (o .terms) })
             accepts ps h =
                 let v = h .kept (omega (arith, l, h .count)) b in
-                rw (with-k ps, v) (fine-units s (f .k) (units-in s (o .terms)) shallow (omega (arith, l, h .count, as-many ps (units-in s (o .terms)) v)))
+                rw (with-k ps, v) (fine-units s (f .k) (units-in s (o .terms)) g (omega (arith, l, h .count, as-many ps (units-in s (o .terms)) v)))
+
+  -- the first number that is due
+  abbrev first-due : Bool → Bool → Bool → Bool → ℕ
+  first-due ten whole shallow few = due ten 5 (due whole 5 (due shallow 6 (due few 7 0)))
+
+  by-tests : (ten broken shallow few : Bool) → f .ok ≡ ten → o .terms .broken ≡ broken → leb (deepest s) 8 ≡ shallow → leb (o .terms .count) 32 ≡ few
+      → ChecksValues s o (with-number (first-due ten (not broken) shallow few))
+  by-tests false broken shallow few t b d l = values₁ t
+  by-tests true true shallow few t b d l = values₂ t b
+  by-tests true false false few t b d l = values₃ t b (leb-false (deepest s) 8 d)
+  by-tests true false true false t b d l = values₄ t b (leb-true (deepest s) 8 d) (leb-false (o .terms .count) 32 l)
+  by-tests true false true true t b d l = values₅ t b (leb-true (deepest s) 8 d) (leb-true (o .terms .count) 32 l)
+
+  pub values-checked : {x i₄ i₃ i₂ i₁ : ℕ} → x ≡ deepest s → i₄ ≡ due (leb (o .terms .count) 32) 7 0 → i₃ ≡ due (leb x 8) 6 i₄
+      → i₂ ≡ due (not (o .terms .broken)) 5 i₃ → i₁ ≡ due (f .ok) 5 i₂ → ChecksValues s o (with-number i₁)
+  values-checked e e₄ e₃ e₂ e₁ = rw (e₁, e₂, e₃, e₄, e) (by-tests (f .ok) (o .terms .broken) (leb (deepest s) 8) (leb (o .terms .count) 32) refl refl refl refl)
 
 -- THE WHOLE LABEL
 

@@ -122,3 +122,24 @@ module _ {power e : ℤ} (f : SFits w32 power) (g : SFits w32 e) (small : natAbs
 
     pub sum-held : (toZ w64 (ofZ w64 total) ≡ sum +ℤ power *ℤ e) × (natAbs (toZ w64 (ofZ w64 total)) ≤ natAbs sum + 2 ^ 37)
     sum-held = let q = toZ-ofZ sum-fits ∙ total-is in (q, rw q total-size)
+
+-- SIXTY TIMES A NUMBER, AS THE MACHINE HOLDS IT
+
+module _ {z : ℤ} (f : SFits w32 z) where
+  abbrev sixty-times : ℤ
+  sixty-times = toZ w64 (ofZ w64 (toZ w32 (ofZ w32 z))) *ℤ pos 60
+
+  sixty-is : sixty-times ≡ z *ℤ pos 60
+  sixty-is = rw (widened-is f)
+
+  sixty-size : natAbs (z *ℤ pos 60) ≤ 2 ^ 37
+  sixty-size =
+      let h : natAbs z ≤ 2 ^ 31 = omega (arith, abs-mag z, f .sfits) in
+      let g : natAbs (pos 60) ≤ 60 = omega arith in
+      omega (arith, product-within z (pos 60) h g)
+
+  pub sixty-fits : SFits w64 sixty-times
+  sixty-fits = rw sixty-is (wide-fits (omega (arith, sixty-size)))
+
+  pub sixty-held : (toZ w64 (ofZ w64 sixty-times) ≡ z *ℤ pos 60) × (natAbs (toZ w64 (ofZ w64 sixty-times)) ≤ 2 ^ 37)
+  sixty-held = let q = toZ-ofZ sixty-fits ∙ sixty-is in (q, rw q sixty-size)

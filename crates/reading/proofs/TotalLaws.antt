@@ -3,10 +3,10 @@ use Prim.Native.Nat.{ℕ, zero, suc, _+_, _*_, _<_, _≤_, _^_}
 use native.Mathlib.Omega.{arith}
 use mathlib.Core.Path.{_≡_, refl, sym, ap, _∙_}
 use mathlib.Core.List.{List, [], _∷_, map}
-use lib.IntN.{ℤ, pos, natAbs, _+ℤ_, _*ℤ_, +ℤ-idl, +ℤ-idr, +ℤ-assoc, *ℤ-comm}
+use lib.IntN.{ℤ, pos, natAbs, _+ℤ_, _*ℤ_, +ℤ-idl, +ℤ-idr, +ℤ-assoc}
 use lib.ListN.{length, getD, replicate, length-replicate}
-use mir.Syntax.{w32, w64}
-use mir.Val.{SFits, toZ, ofZ}
+use mir.Syntax.{w64}
+use mir.Val.{toZ, ofZ}
 use mir.Facts.{toZ-ofZ}
 use Rattle.label.specs.declared.Exponent.{Exponent}
 use Rattle.label.specs.declared.Tens.{Tens}
@@ -62,7 +62,7 @@ zeros-within n m = record { within = λ b. rw (zeros n b) (omega arith) }
 abbrev tens : ℤ → List ℤ
 tens z = z ∷ pos 0 ∷ z ∷ pos 0 ∷ []
 
-module _ (r : ℤ) (small : natAbs r ≤ natAbs (pos 0) + 2 ^ 37) where
+module _ (r : ℤ) (small : natAbs r ≤ 2 ^ 37) where
   ten-held : toZ w64 (ofZ w64 r) ≡ r
   ten-held = toZ-ofZ (wide-fits (omega arith))
 
@@ -77,14 +77,9 @@ module _ (r : ℤ) (small : natAbs r ≤ natAbs (pos 0) + 2 ^ 37) where
       go z h (suc (suc (suc (suc b)))) = omega arith
 
   -- the number is sixty times the factor's power of ten
-  module _ (k : Tens) (f : SFits w32 (k .0)) (q : r ≡ pos 0 +ℤ pos 60 *ℤ toZ w32 (ofZ w32 (k .0))) where
+  module _ (k : Tens) (q : r ≡ k .0 *ℤ pos 60) where
     ten-is : toZ w64 (ofZ w64 r) ≡ k .0 *ℤ pos 60
-    ten-is =
-        ten-held
-        ∙ q
-        ∙ +ℤ-idl (pos 60 *ℤ toZ w32 (ofZ w32 (k .0)))
-        ∙ ap (λ (z : ℤ). pos 60 *ℤ z) (toZ-ofZ f)
-        ∙ *ℤ-comm (pos 60) (k .0)
+    ten-is = ten-held ∙ q
 
     pub tens-are : (b : ℕ) → b < 4 → getD (tens (toZ w64 (ofZ w64 r))) b (pos 0) ≡ in-tens (prime-at b) k *ℤ pos 60
     tens-are zero h = ten-is

@@ -24,6 +24,11 @@ abbrev pub checked-by : Bool → ℕ → Tens → List Placed → spec.Checked
 checked-by true i k us = accept (record { k = k; units = us })
 checked-by false i k us = refuse i
 
+-- refusal i unless the test is passed; 0 is no refusal
+abbrev pub due : Bool → ℕ → ℕ → ℕ
+due true i after = after
+due false i after = i
+
 pub record Rejects (i : ℕ) (r : Checked) : Type 0 where
   pub refused : r .ok ≡ false
   pub number : r .number ≡ i

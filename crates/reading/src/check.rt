@@ -11,7 +11,7 @@ use values::brackets::deepest;
 use values::factors::factor;
 ghost use mathlib.Core.Path.{_≡_};
 ghost use Rattle.label.specs.Ranges.{FactorInside};
-ghost use Rattle.reading.specs.Checks.{Rejects, ChecksValues, Checks};
+ghost use Rattle.reading.specs.Checks.{due, Rejects, ChecksValues, Checks};
 
 // What a label says, or the number of the first refusal that is due.
 pub struct Checked {
@@ -34,6 +34,16 @@ pub fn rejected(i: u8) -> Checked
     }
 }
 
+// Refusal `i` unless the test is passed; then what the tests after it say.
+fn unless(passed: bool, i: u8, after: u8) -> u8
+    ensures { λ r. ⌜ r ≡ due passed i after ⌝ }
+{
+    if passed {
+        return after;
+    }
+    i
+}
+
 // Refusals 5 to 7 of a label that is in the grammar.
 pub fn check_values(s: &[u8], o: LabelRead) -> Checked
     requires { ⌜ FactorInside (now s) (o .factor) ⌝ }
@@ -42,22 +52,19 @@ pub fn check_values(s: &[u8], o: LabelRead) -> Checked
     let written = o.factor;
     let terms = o.terms;
     let f = factor(s, written);
-    if !f.ok {
-        return rejected(5);
-    }
-    if terms.broken {
-        return rejected(5);
-    }
-    if deepest(s) > 8 {
-        return rejected(6);
-    }
-    if terms.count > 32 {
-        return rejected(7);
-    }
+    let ten = f.ok;
+    let whole = !terms.broken;
+    let shallow = deepest(s) <= 8;
+    let few = terms.count <= 32;
+    let number = unless(
+        ten,
+        5,
+        unless(whole, 5, unless(shallow, 6, unless(few, 7, 0))),
+    );
     let k = f.k;
     Checked {
-        ok: true,
-        number: 0,
+        ok: number == 0,
+        number,
         k,
         terms,
     }

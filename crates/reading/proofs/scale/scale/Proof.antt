@@ -4,8 +4,6 @@ use native.Mathlib.Omega.{arith}
 use mathlib.Core.Path.{_≡_, refl}
 use mathlib.Core.List.{List, []}
 use lib.ListN.{length}
-use mir.Syntax.{w32}
-use mir.Val.{SFits}
 use borrow.Author.Needs.{needs}
 use Rattle.label.specs.Reading.{prime-in}
 use Rattle.symbols.specs.Slots.{prime-at}
@@ -22,11 +20,11 @@ Inv-loop prefixes primes count terms tens sums₀ i₀ sums i =
 abbrev μ-loop : tie.MeasureT-loop
 μ-loop prefixes primes count terms tens sums₀ i₀ sums i = count - i
 
-plus-requires : tie.Need-plus-requires Inv-loop μ-loop
-plus-requires c κs = omega arith
+in-sixtieths-requires : tie.Need-in-sixtieths-requires Inv-loop μ-loop
+in-sixtieths-requires c κs = omega arith
 
 loop-holds : tie.Need-loop-holds Inv-loop μ-loop
-loop-holds c = (omega arith, (tens-within (c .plus .result) (c .plus .ensures .1), λ s. no-totals (λ b. prime-in (prime-at b)) _))
+loop-holds c = (omega arith, (tens-within (c .in-sixtieths .result) (c .in-sixtieths .ensures .1), λ s. no-totals (λ b. prime-in (prime-at b)) _))
 
 mul-t : tie.Need-mul-t Inv-loop μ-loop
 mul-t c = search needs
@@ -37,7 +35,7 @@ array-copy-out-t c = search needs
 add-primes-requires : tie.Need-add-primes-requires Inv-loop μ-loop
 add-primes-requires c κs =
     let at = c .before .before .before in
-    let start = at .before .before .before in
+    let start = at .before .before in
     (start .pre .0, (start .pre .1 .0, summable (at .loop .i) (at .loop .inv .1 .1 [] .room) (omega arith) (at .loop .inv .1 .0)))
 
 add-i : tie.Need-add-i Inv-loop μ-loop
@@ -49,23 +47,19 @@ loop-less c = search needs
 loop-again : tie.Need-loop-again Inv-loop μ-loop
 loop-again c =
     let at = c .before .before .before .before in
-    let start = at .before .before .before in
+    let start = at .before .before in
     let added = c .add-primes .ensures in
     let ts = start .args .t5 in
     let room : length ts ≡ 32 = start .good .1 .1 .1 .1 .0 .1 .0 .1 in
     let more = bound-more (at .loop .i) (at .loop .inv .1 .0) (added []) in
     (omega arith, (more, λ s. one-total s ts (at .loop .i) _ (omega arith) (at .loop .inv .1 .1 s) (added s)))
 
--- the factor's power of ten fits its type
-tens-fit : (c : tie.After-struct-told Inv-loop μ-loop) → SFits w32 (c .before .args .k .0)
-tens-fit c = record { sfits = omega arith }
-
 returns : tie.Need-returns Inv-loop μ-loop
 returns c = λ s.
     let after = c .before .before in
-    let start = after .before .before in
+    let start = after .before in
     let k = start .args .k in
-    let starts = tens-are (after .plus .result) (after .plus .ensures .1) k (tens-fit (after .before)) (after .plus .ensures .0) in
+    let starts = tens-are (after .in-sixtieths .result) (after .in-sixtieths .ensures .1) k (after .in-sixtieths .ensures .0) in
     let e : c .before .loop .i ≡ start .args .count = omega arith in
     rw (← e) (scale-is k _ _ _ refl starts (c .before .loop .inv .1 .1 s))
 
@@ -75,7 +69,7 @@ scale-spec =
     (tie.spec
     Inv-loop
     μ-loop
-    plus-requires
+    in-sixtieths-requires
     loop-holds
     mul-t
     array-copy-out-t

@@ -11,14 +11,15 @@ use Rattle.label.specs.declared.Tens.{Tens}
 use Rattle.label.specs.Reading.{exponent, dimensions-of, scale-of, refusal, reading-of, answered, reading}
 use Rattle.descent.specs.declared.terms.Terms.{Terms}
 use Rattle.descent.specs.Terms.{AllIn}
-use Rattle.reading.specs.declared.term.Term.{Term}
-use Rattle.reading.specs.declared.verdicts.Verdicts.{Verdicts}
-use Rattle.reading.specs.declared.check.Checked.{Checked}
+use Rattle.content.specs.declared.term.Term.{Term}
+use Rattle.content.specs.declared.verdicts.Verdicts.{Verdicts}
+use Rattle.checks.specs.declared.check.Checked.{Checked}
 use Rattle.reading.specs.declared.read.Reading.{Reading}
-use Rattle.reading.specs.Views.{terms-in, reading-in}
-use Rattle.reading.specs.Named.{AllNamed}
-use Rattle.reading.specs.Verdicts.{VerdictsOn}
-use Rattle.reading.specs.Checks.{Checks}
+use Rattle.content.specs.Views.{terms-in}
+use Rattle.reading.specs.Views.{reading-in}
+use Rattle.content.specs.Named.{AllNamed}
+use Rattle.content.specs.Verdicts.{VerdictsOn}
+use Rattle.checks.specs.Checks.{Checks}
 use Rattle.reading.specs.Answers.{Accepted}
 
 pub accepted₁ : {n : ℕ} {s : List ℕ} {k : Tens} {t : Terms} {terms : List Term} {v : Verdicts} {ds cs : List ℤ} → AllNamed n s t terms

@@ -1,10 +1,1 @@
 pub mod Answering
-pub mod Checking
-pub mod Integers
-pub mod Listing
-pub mod Naming
-pub mod Notations
-pub mod SlotLaws
-pub mod SumLaws
-pub mod TermLaws
-pub mod TotalLaws

@@ -8,7 +8,7 @@ use Rattle.label.specs.Reading.{term, reading-of}
 use Rattle.descent.specs.declared.terms.Terms.{Terms}
 use Rattle.reading.specs.declared.read.Reading.{Reading}
 use Rattle.reading.specs.Views.{reading-in}
-use Rattle.reading.specs.Checks.{units-in}
+use Rattle.checks.specs.Checks.{units-in}
 
 pub record Accepted (n : ℕ) (s : List ℕ) (k : Tens) (t : Terms) (r : Reading) : Type 0 where
   pub is : reading-in s r ≡ reading-of n k (map (term n (length s)) (units-in s t))

@@ -1,6 +1,2 @@
 pub mod Views
-pub mod Named
-pub mod Sums
-pub mod Verdicts
-pub mod Checks
 pub mod Answers

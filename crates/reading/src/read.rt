@@ -1,11 +1,11 @@
 // What reading a label answers.
-use crate::check::check;
-use crate::dimensions::dimensions;
-use crate::named::all_named;
-use crate::named::no_term;
-use crate::scale::scale;
-use crate::term::Term;
-use crate::verdicts::verdicts_on;
+use checks::check::check;
+use content::dimensions::dimensions;
+use content::named::all_named;
+use content::named::no_term;
+use content::scale::scale;
+use content::term::Term;
+use content::verdicts::verdicts_on;
 use descent::terms::Terms;
 use label::Tens;
 use symbols::tables::prefix_powers;

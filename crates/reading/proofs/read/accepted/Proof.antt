@@ -6,10 +6,10 @@ use Rattle.reading.proofs.read.accepted.Statement.{statement}
 use Rattle.reading.proofs.read.accepted.Tie as tie
 use Rattle.reading.proofs.read.accepted.Reads as reads
 use Rattle.reading.proofs.read.accepted.Lts as lts
-use Rattle.reading.proofs.dimensions.dimensions.Reads as dimensions-reads
-use Rattle.reading.proofs.named.all_named.Reads as all-named-reads
-use Rattle.reading.proofs.scale.scale.Reads as scale-reads
-use Rattle.reading.proofs.verdicts.verdicts_on.Reads as verdicts-on-reads
+use Rattle.content.proofs.dimensions.dimensions.Reads as dimensions-reads
+use Rattle.content.proofs.named.all_named.Reads as all-named-reads
+use Rattle.content.proofs.scale.scale.Reads as scale-reads
+use Rattle.content.proofs.verdicts.verdicts_on.Reads as verdicts-on-reads
 use Rattle.symbols.proofs.tables.prefix_powers.Reads as prefix-powers-reads
 use Rattle.symbols.proofs.tables.unit_bases.Reads as unit-bases-reads
 use Rattle.symbols.proofs.tables.unit_powers.Reads as unit-powers-reads

@@ -6,7 +6,7 @@ use Rattle.reading.proofs.read.read.Statement.{statement}
 use Rattle.reading.proofs.read.read.Tie as tie
 use Rattle.reading.proofs.read.read.Reads as reads
 use Rattle.reading.proofs.read.read.Lts as lts
-use Rattle.reading.proofs.check.check.Reads as check-reads
+use Rattle.checks.proofs.check.check.Reads as check-reads
 use Rattle.reading.proofs.read.accepted.Reads as accepted-reads
 use Rattle.reading.proofs.read.refusal.Reads as refusal-reads
 

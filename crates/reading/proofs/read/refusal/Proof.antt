@@ -7,7 +7,7 @@ use Rattle.reading.proofs.read.refusal.Statement.{statement}
 use Rattle.reading.proofs.read.refusal.Tie as tie
 use Rattle.reading.proofs.read.refusal.Reads as reads
 use Rattle.reading.proofs.read.refusal.Lts as lts
-use Rattle.reading.proofs.named.no_term.Reads as no-term-reads
+use Rattle.content.proofs.named.no_term.Reads as no-term-reads
 
 no-term-requires : tie.Need-no-term-requires
 no-term-requires c κs = search needs

@@ -1,0 +1,4 @@
+// The refusals of a label: its notation, its bytes, its grammar and its limits.
+pub mod bytes;
+pub mod check;
+pub mod notation;

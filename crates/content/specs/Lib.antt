@@ -1,0 +1,4 @@
+pub mod Views
+pub mod Named
+pub mod Sums
+pub mod Verdicts

@@ -1,0 +1,48 @@
+// The three verdicts on the terms of a reading.
+use crate::term::Term;
+use scan::class::both;
+use symbols::properties::is_lawful;
+use symbols::properties::is_recommended;
+ghost use mathlib.Core.Path.{_≡_};
+ghost use mathlib.Core.List.{List};
+ghost use Prim.Native.Nat.{ℕ, _≤_};
+ghost use Rattle.symbols.specs.Columns.{unit-prefixed, unit-recommended};
+ghost use Rattle.content.specs.Views.{terms-in};
+ghost use Rattle.content.specs.Verdicts.{VerdictsOn};
+
+// Whether every unit is known, whether every prefix is lawful, and whether every unit is recommended.
+pub struct Verdicts {
+    pub known: bool,
+    pub lawful: bool,
+    pub recommended: bool,
+}
+
+// The verdicts on the first `count` terms in notation `n`. The columns are lent.
+pub fn verdicts_on(
+    prefixed: &[u8],
+    recommended: &[bool],
+    n: u8,
+    count: usize,
+    terms: [Term; 32],
+) -> Verdicts
+    requires { ⌜ (now prefixed ≡ unit-prefixed) × ((now recommended ≡ unit-recommended) × (count ≤ 32)) ⌝ }
+    ensures { λ r. ⌜ ((s : List ℕ) → VerdictsOn n (terms-in s count terms) r) ⌝ }
+{
+    let mut all_known = true;
+    let mut all_lawful = true;
+    let mut all_recommended = true;
+    let mut i = 0;
+    while i < count {
+        let t = terms[i];
+        let x = t.symbol;
+        all_known = both(all_known, x.known);
+        all_lawful = both(all_lawful, is_lawful(prefixed, n, x));
+        all_recommended = both(all_recommended, is_recommended(recommended, x));
+        i += 1;
+    }
+    Verdicts {
+        known: all_known,
+        lawful: all_lawful,
+        recommended: all_recommended,
+    }
+}

@@ -1,33 +1,62 @@
-# make run: what kg/m.s means in each notation. make run NOTATION=cds LABEL='km/h': another label.
-# make test: the programs of tests/. make speed: how long reading takes.
-CFLAGS = -O2 -Wall -Wextra -Werror
+# make: the library and the command, in build/. make run: what kg/m.s means in each notation; NOTATION=cds LABEL='km/h' for another.
+# make test: every program of tests/. make speed: how long reading takes. make clean: removes build/.
+NOTATION = fits ogip cds vou
 export LABEL = kg/m.s
-NOTATION = fits ogip cds vounits
-OUT = target/c
-LIBRARY = target/staticlib/libface.a
+CC = gcc
+CFLAGS = -std=c11 -O2 -Wall -Wextra -Werror
+SANITIZERS = -g -fsanitize=address,undefined -fno-sanitize-recover=all
+FACE = target/staticlib/libface.a
+LIBRARY = build/libthalinguze.a
+HEADERS = include/thalinguze.h $(wildcard c/*.h)
+PARTS = $(patsubst c/%.c,build/%.o,$(wildcard c/*.c))
+TESTS = $(addprefix build/tests/,limits header advice guard guard-plain)
 
-run: $(OUT)/read
-	@for n in $(NOTATION); do $(OUT)/read $$n "$$LABEL" || test $$? = 1; done
+all: $(LIBRARY) build/thalinguze
 
-test: $(OUT)/readings $(OUT)/limits $(OUT)/read
-	@$(OUT)/readings vectors/readings.tsv
-	@$(OUT)/limits
-	@tests/read.sh $(OUT)/read
+run: all
+	@for n in $(NOTATION); do build/thalinguze read $$n "$$LABEL" || test $$? = 1; echo; done
 
-speed: $(OUT)/speed
-	@$(OUT)/speed
+test: all $(TESTS)
+	@tests/vectors.sh
+	@build/tests/limits
+	@tests/header.sh
+	@build/tests/advice
+	@tests/read.sh
+	@tests/guard.sh
 
-$(LIBRARY): crates.txt $(shell find crates -name '*.rt' -o -name '*.antt')
+speed: build/tests/speed
+	@build/tests/speed
+
+clean:
+	rm -rf build
+
+# The proofs are checked before the library is made. A line for each proved crate is shown; the whole log stays in target/.
+target/staticlib/libface.a: crates.txt $(shell find crates -name '*.rt' -o -name '*.antt')
 	@mkdir -p target
-	@echo 'proving the reader and building its library: some minutes'
-	@rt staticlib face >target/staticlib.log 2>&1 || { tail -n 20 target/staticlib.log; false; }
+	@echo 'checking the proofs of the reader and building its library: some minutes'
+	@{ rt staticlib face 2>&1; echo "exit status $$?"; } | tee target/staticlib.log | grep --line-buffered '^rt: ' || true
+	@tail -n 1 target/staticlib.log | grep -qx 'exit status 0' || { tail -n 20 target/staticlib.log; false; }
+	@touch $@
 
-$(OUT)/read: c/read.c c/names.h include/thalinguze.h $(LIBRARY)
-	@mkdir -p $(OUT)
-	@gcc $(CFLAGS) -o $@ $< $(LIBRARY)
+$(LIBRARY): $(FACE)
+	@mkdir -p build
+	cp $(FACE) $@
 
-$(OUT)/%: tests/%.c c/names.h include/thalinguze.h $(LIBRARY)
-	@mkdir -p $(OUT)
-	@gcc $(CFLAGS) -o $@ $< $(LIBRARY)
+build/%.o: c/%.c $(HEADERS)
+	@mkdir -p build
+	$(CC) $(CFLAGS) -c -o $@ $<
 
-.PHONY: run test speed
+build/thalinguze: $(PARTS) $(LIBRARY)
+	$(CC) -o $@ $^
+
+build/tests/%: tests/%.c tests/labels.h $(HEADERS) $(LIBRARY)
+	@mkdir -p build/tests
+	$(CC) $(CFLAGS) -o $@ $(filter %.c,$^) $(LIBRARY)
+
+build/tests/guard build/tests/advice: CFLAGS += $(SANITIZERS)
+build/tests/advice: c/advice.c c/loose.c
+
+build/tests/guard-plain: tests/guard.c tests/labels.h $(HEADERS) $(LIBRARY)
+	$(CC) $(CFLAGS) -g -o $@ $< $(LIBRARY)
+
+.PHONY: all run test speed clean

@@ -1,37 +1,378 @@
-/* Reading of unit labels. Link with libface.a. */
+/*
+ * thalinguze.h: reading of physics unit labels.
+ *
+ * One call reads a label such as "kg/m.s" under one of four notations and writes what it means into a record of fixed layout:
+ *
+ *     #include <stdio.h>
+ *     #include <string.h>
+ *     #include "thalinguze.h"
+ *
+ *     int main(void)
+ *     {
+ *         const char *label = "kg/m.s";
+ *         uint8_t record[THALINGUZE_RECORD_SIZE];
+ *         uint32_t refusal = thalinguze_read(THALINGUZE_CDS, (const uint8_t *)label, strlen(label), record, sizeof record);
+ *         if (refusal != THALINGUZE_ACCEPTED)
+ *             return (int)refusal;
+ *         for (unsigned i = 0; i < thalinguze_count(record); i++)
+ *             printf("unit %d, exponent %d sixtieths\n", thalinguze_term_unit(record, i), thalinguze_term_exponent(record, i));
+ *         return 0;
+ *     }
+ *
+ * prints unit 2 (gram; its prefix is THALINGUZE_PREFIX_KILO), exponent 60; unit 1 (metre), exponent -60; unit 3 (second), exponent 60.
+ *
+ *     gcc -I include example.c build/libthalinguze.a
+ *
+ * The library allocates nothing, keeps nothing between calls and may be called from several threads at once.
+ * Usable from C11 and from C++11.
+ */
 #ifndef THALINGUZE_H
 #define THALINGUZE_H
-#include <stdbool.h>
+
 #include <stddef.h>
 #include <stdint.h>
 
-enum { THALINGUZE_FITS = 1, THALINGUZE_OGIP = 2, THALINGUZE_CDS = 3, THALINGUZE_VOUNITS = 4 };
+#ifdef __cplusplus
+extern "C" {
+#endif
 
-/* What a spelling stands for. */
-struct thalinguze_symbol {
-    bool known;
-    uint8_t prefix;    /* one more than the prefix's place among da h k M G T P E Z Y d c m u n p f a z y; 0 without a prefix */
-    uint8_t unit;      /* the row of a known unit */
-    size_t start, end; /* where the letters of an unknown unit start and end in the text */
+/* The notations. Every other number is refused with THALINGUZE_NO_SUCH_NOTATION. */
+enum {
+    THALINGUZE_FITS = 1,
+    THALINGUZE_OGIP = 2,
+    THALINGUZE_CDS = 3,
+    THALINGUZE_VOUNITS = 4
 };
 
-struct thalinguze_term {
-    struct thalinguze_symbol symbol;
-    int32_t exponent;    /* in sixtieths */
-    uint8_t start, size; /* where the spelling stands in the text */
+/* What thalinguze_read returns: 0, or the first of these that applies. */
+enum {
+    THALINGUZE_ACCEPTED = 0,
+    THALINGUZE_NO_SUCH_NOTATION = 1,  /* the notation number is not 1 to 4 */
+    THALINGUZE_TOO_LONG = 2,          /* the label is over THALINGUZE_MAX_LABEL_SIZE bytes */
+    THALINGUZE_BYTE_OUT_OF_RANGE = 3, /* a byte lies outside hexadecimal 20 to 7E */
+    THALINGUZE_NOT_IN_GRAMMAR = 4,    /* the label is not in the notation's grammar */
+    THALINGUZE_NUMBER_OUT_OF_BOUNDS = 5, /* a run of digits, an exponent or the factor breaks its bound */
+    THALINGUZE_TOO_DEEP = 6,          /* more than THALINGUZE_MAX_DEPTH brackets are open at once */
+    THALINGUZE_TOO_MANY_TERMS = 7     /* more than THALINGUZE_MAX_TERMS terms */
 };
 
-struct thalinguze_reading {
-    uint8_t number;                   /* 0, or the number of the refusal */
-    int32_t k;                        /* the label's power of ten */
-    size_t count;                     /* how many of the terms are the label's */
-    struct thalinguze_term terms[32];
-    bool known, lawful, recommended;
-    int64_t dimensions[32];           /* the exponent of each base, in sixtieths */
-    int64_t scale[4];                 /* the exponents of 2, 3, 5 and 487, in sixtieths */
+/* Limits of an accepted label. */
+#define THALINGUZE_MAX_LABEL_SIZE 255    /* bytes */
+#define THALINGUZE_MAX_TERMS 32
+#define THALINGUZE_MAX_DEPTH 8           /* brackets open at once */
+#define THALINGUZE_MAX_DIGITS 4          /* in a run of digits; a plain factor 1, 10, 100, .. may have more */
+#define THALINGUZE_MAX_EXPONENT 99       /* size of an exponent; its denominator in lowest terms divides 60 */
+#define THALINGUZE_MAX_POWER_OF_TEN 99   /* size of a factor's k, in ten to the k */
+
+/* Exponents are counted in sixtieths: 60 is 1, 90 is 3/2, -60 is -1. */
+#define THALINGUZE_SIXTIETHS 60
+
+/*
+ * The record: THALINGUZE_FIELDS fields of 8 bytes, each a signed integer in two's complement, least significant byte first.
+ * Field f stands at the bytes from 8 * f. Fields that a label does not need are 0.
+ */
+#define THALINGUZE_FIELD_SIZE 8
+#define THALINGUZE_FIELDS 202
+#define THALINGUZE_RECORD_SIZE (THALINGUZE_FIELDS * THALINGUZE_FIELD_SIZE) /* 1616 bytes */
+
+#define THALINGUZE_BASES 32  /* bases that dimensions count */
+#define THALINGUZE_PRIMES 4  /* primes that a scale counts: 2, 3, 5, 487 */
+
+/* Field numbers. */
+enum {
+    THALINGUZE_FIELD_NUMBER = 0,       /* 0: only an accepted label has a record */
+    THALINGUZE_FIELD_K = 1,            /* the power of ten of the factor, -99 to 99; 0 without a factor */
+    THALINGUZE_FIELD_KNOWN = 2,        /* 1 if every unit is known, else 0 */
+    THALINGUZE_FIELD_LAWFUL = 3,       /* 1 if every prefix on a known unit is lawful there, else 0 */
+    THALINGUZE_FIELD_RECOMMENDED = 4,  /* 1 if every unit is known and recommended, else 0 */
+    THALINGUZE_FIELD_COUNT = 5,        /* how many terms the label has, 0 to 32 */
+    THALINGUZE_FIELD_TERMS = 6,        /* term i, counted from 0, has five fields from THALINGUZE_FIELD_TERMS + 5 * i */
+    THALINGUZE_FIELD_DIMENSIONS = 166, /* one field for each base: its exponent in the label, in sixtieths */
+    THALINGUZE_FIELD_SCALE = 198       /* the exponents of 2, 3, 5 and 487 in the label's scale, in sixtieths */
 };
 
-/* Reads `size` bytes of `text` in a notation. Any number, any bytes and any size get an answer. */
-struct thalinguze_reading thalinguze_read(uint32_t notation, const uint8_t *text, size_t size);
+/* The fields of a term, counted from its first. */
+enum {
+    THALINGUZE_TERM_PREFIX = 0,   /* THALINGUZE_PREFIX_... */
+    THALINGUZE_TERM_UNIT = 1,     /* THALINGUZE_UNIT_... */
+    THALINGUZE_TERM_EXPONENT = 2, /* in sixtieths, never 0; negative below the line */
+    THALINGUZE_TERM_START = 3,    /* how many bytes of the label come before the term's spelling */
+    THALINGUZE_TERM_LENGTH = 4,   /* how many bytes the spelling has, prefix and quotes included */
+    THALINGUZE_TERM_FIELDS = 5
+};
+
+/* Prefix codes. */
+enum {
+    THALINGUZE_PREFIX_NONE = 0,
+    THALINGUZE_PREFIX_DECA = 1,   /* da, 10 to the 1 */
+    THALINGUZE_PREFIX_HECTO = 2,  /* h, 2 */
+    THALINGUZE_PREFIX_KILO = 3,   /* k, 3 */
+    THALINGUZE_PREFIX_MEGA = 4,   /* M, 6 */
+    THALINGUZE_PREFIX_GIGA = 5,   /* G, 9 */
+    THALINGUZE_PREFIX_TERA = 6,   /* T, 12 */
+    THALINGUZE_PREFIX_PETA = 7,   /* P, 15 */
+    THALINGUZE_PREFIX_EXA = 8,    /* E, 18 */
+    THALINGUZE_PREFIX_ZETTA = 9,  /* Z, 21 */
+    THALINGUZE_PREFIX_YOTTA = 10, /* Y, 24 */
+    THALINGUZE_PREFIX_DECI = 11,  /* d, -1 */
+    THALINGUZE_PREFIX_CENTI = 12, /* c, -2 */
+    THALINGUZE_PREFIX_MILLI = 13, /* m, -3 */
+    THALINGUZE_PREFIX_MICRO = 14, /* u, -6 */
+    THALINGUZE_PREFIX_NANO = 15,  /* n, -9 */
+    THALINGUZE_PREFIX_PICO = 16,  /* p, -12 */
+    THALINGUZE_PREFIX_FEMTO = 17, /* f, -15 */
+    THALINGUZE_PREFIX_ATTO = 18,  /* a, -18 */
+    THALINGUZE_PREFIX_ZEPTO = 19, /* z, -21 */
+    THALINGUZE_PREFIX_YOCTO = 20  /* y, -24 */
+};
+
+/* Unit codes. A unit under two names has one code. */
+enum {
+    THALINGUZE_UNIT_UNKNOWN = 0,
+    THALINGUZE_UNIT_METRE = 1,               /* m */
+    THALINGUZE_UNIT_GRAM = 2,                /* g */
+    THALINGUZE_UNIT_SECOND = 3,              /* s */
+    THALINGUZE_UNIT_AMPERE = 4,              /* A */
+    THALINGUZE_UNIT_KELVIN = 5,              /* K */
+    THALINGUZE_UNIT_MOLE = 6,                /* mol */
+    THALINGUZE_UNIT_CANDELA = 7,             /* cd */
+    THALINGUZE_UNIT_RADIAN = 8,              /* rad */
+    THALINGUZE_UNIT_STERADIAN = 9,           /* sr */
+    THALINGUZE_UNIT_HERTZ = 10,              /* Hz */
+    THALINGUZE_UNIT_NEWTON = 11,             /* N */
+    THALINGUZE_UNIT_PASCAL = 12,             /* Pa */
+    THALINGUZE_UNIT_JOULE = 13,              /* J */
+    THALINGUZE_UNIT_WATT = 14,               /* W */
+    THALINGUZE_UNIT_COULOMB = 15,            /* C */
+    THALINGUZE_UNIT_VOLT = 16,               /* V */
+    THALINGUZE_UNIT_SIEMENS = 17,            /* S */
+    THALINGUZE_UNIT_FARAD = 18,              /* F */
+    THALINGUZE_UNIT_WEBER = 19,              /* Wb */
+    THALINGUZE_UNIT_TESLA = 20,              /* T */
+    THALINGUZE_UNIT_HENRY = 21,              /* H */
+    THALINGUZE_UNIT_LUMEN = 22,              /* lm */
+    THALINGUZE_UNIT_LUX = 23,                /* lx */
+    THALINGUZE_UNIT_MINUTE = 24,             /* min */
+    THALINGUZE_UNIT_HOUR = 25,               /* h */
+    THALINGUZE_UNIT_DAY = 26,                /* d */
+    THALINGUZE_UNIT_YEAR = 27,               /* yr, a */
+    THALINGUZE_UNIT_DEGREE = 28,             /* deg */
+    THALINGUZE_UNIT_ARCMINUTE = 29,          /* arcmin */
+    THALINGUZE_UNIT_ARCSECOND = 30,          /* arcsec */
+    THALINGUZE_UNIT_ASTRONOMICAL_UNIT = 31,  /* AU */
+    THALINGUZE_UNIT_PARSEC = 32,             /* pc */
+    THALINGUZE_UNIT_ELECTRONVOLT = 33,       /* eV */
+    THALINGUZE_UNIT_JANSKY = 34,             /* Jy */
+    THALINGUZE_UNIT_BARN = 35,               /* barn */
+    THALINGUZE_UNIT_MAGNITUDE = 36,          /* mag */
+    THALINGUZE_UNIT_BYTE = 37,               /* byte */
+    THALINGUZE_UNIT_MILLIARCSECOND = 38,     /* mas */
+    THALINGUZE_UNIT_PIXEL = 39,              /* pixel, pix */
+    THALINGUZE_UNIT_COUNT = 40,              /* count, ct */
+    THALINGUZE_UNIT_RYDBERG = 41,            /* Ry */
+    THALINGUZE_UNIT_SOLAR_MASS = 42,         /* solMass */
+    THALINGUZE_UNIT_SOLAR_LUMINOSITY = 43,   /* solLum */
+    THALINGUZE_UNIT_SOLAR_RADIUS = 44,       /* solRad */
+    THALINGUZE_UNIT_DEBYE = 45,              /* D */
+    THALINGUZE_UNIT_SUN = 46,                /* Sun: relative to the Sun */
+    THALINGUZE_UNIT_BIT = 47,                /* bit */
+    THALINGUZE_UNIT_OHM = 48,                /* ohm, Ohm */
+    THALINGUZE_UNIT_ERG = 49,                /* erg */
+    THALINGUZE_UNIT_GAUSS = 50,              /* G */
+    THALINGUZE_UNIT_LIGHT_YEAR = 51,         /* lyr */
+    THALINGUZE_UNIT_PHOTON = 52,             /* photon, ph */
+    THALINGUZE_UNIT_CHANNEL = 53,            /* chan */
+    THALINGUZE_UNIT_BIN = 54,                /* bin */
+    THALINGUZE_UNIT_VOXEL = 55,              /* voxel */
+    THALINGUZE_UNIT_ATOMIC_MASS_UNIT = 56,   /* u */
+    THALINGUZE_UNIT_RAYLEIGH = 57,           /* R */
+    THALINGUZE_UNIT_ANALOGUE_TO_DIGITAL_UNIT = 58, /* adu */
+    THALINGUZE_UNIT_BEAM = 59,               /* beam */
+    THALINGUZE_UNIT_ANGSTROM = 60,           /* angstrom, Angstrom */
+    THALINGUZE_UNIT_PERCENT = 61,            /* % */
+    THALINGUZE_UNITS = 61                    /* how many units there are */
+};
+
+/* The bases that dimensions count, 0 to 31. */
+enum {
+    THALINGUZE_BASE_METRE = 0,
+    THALINGUZE_BASE_GRAM = 1,
+    THALINGUZE_BASE_SECOND = 2,
+    THALINGUZE_BASE_AMPERE = 3,
+    THALINGUZE_BASE_KELVIN = 4,
+    THALINGUZE_BASE_MOLE = 5,
+    THALINGUZE_BASE_CANDELA = 6,
+    THALINGUZE_BASE_RADIAN = 7,
+    THALINGUZE_BASE_STERADIAN = 8,
+    THALINGUZE_BASE_ARCSECOND = 9,
+    THALINGUZE_BASE_BIT = 10,
+    THALINGUZE_BASE_ASTRONOMICAL_UNIT = 11,
+    THALINGUZE_BASE_PARSEC = 12,
+    THALINGUZE_BASE_ELECTRONVOLT = 13,
+    THALINGUZE_BASE_MAGNITUDE = 14,
+    THALINGUZE_BASE_PIXEL = 15,
+    THALINGUZE_BASE_COUNT = 16,
+    THALINGUZE_BASE_RYDBERG = 17,
+    THALINGUZE_BASE_SOLAR_MASS = 18,
+    THALINGUZE_BASE_SOLAR_LUMINOSITY = 19,
+    THALINGUZE_BASE_SOLAR_RADIUS = 20,
+    THALINGUZE_BASE_DEBYE = 21,
+    THALINGUZE_BASE_SUN = 22,
+    THALINGUZE_BASE_LIGHT_YEAR = 23,
+    THALINGUZE_BASE_PHOTON = 24,
+    THALINGUZE_BASE_CHANNEL = 25,
+    THALINGUZE_BASE_BIN = 26,
+    THALINGUZE_BASE_VOXEL = 27,
+    THALINGUZE_BASE_ATOMIC_MASS_UNIT = 28,
+    THALINGUZE_BASE_RAYLEIGH = 29,
+    THALINGUZE_BASE_ANALOGUE_TO_DIGITAL_UNIT = 30,
+    THALINGUZE_BASE_BEAM = 31
+};
+
+/* The primes that a scale counts, 0 to 3. */
+enum {
+    THALINGUZE_PRIME_2 = 0,
+    THALINGUZE_PRIME_3 = 1,
+    THALINGUZE_PRIME_5 = 2,
+    THALINGUZE_PRIME_487 = 3
+};
+
+/*
+ * Reads a label in a notation.
+ *
+ * notation     one of THALINGUZE_FITS, _OGIP, _CDS, _VOUNITS. Any other number gets an answer too: it is refused.
+ * label        the label's bytes, without a terminating 0; any bytes. They are only read.
+ * label_size   how many bytes the label has; 0 is the empty label, which every notation accepts, with no terms.
+ * record       where the record is written.
+ * record_size  how many bytes are lent there; THALINGUZE_RECORD_SIZE holds the whole record.
+ *
+ * Returns 0 (THALINGUZE_ACCEPTED), or the number of the refusal, 1 to 7. The answer depends on the notation and the label's bytes
+ * alone, not on record_size.
+ *
+ * Accepted: the record is written. A buffer shorter than the record gets the bytes that fit, as snprintf does, and a field that is
+ * cut is not to be read. In a longer buffer the bytes past the record stay as they are.
+ * Refused: no byte of the buffer changes. So look at the returned number before the record.
+ *
+ * label must point to label_size readable bytes and record to record_size writable bytes. Neither may be NULL, also where its size
+ * is 0, and the two buffers must not overlap. They need no alignment.
+ */
+uint32_t thalinguze_read(uint32_t notation, const uint8_t *label, size_t label_size, uint8_t *record, size_t record_size);
+
+/*
+ * What follows takes fields out of a record that an accepted reading wrote whole. Terms are counted from 0, in the order of the
+ * label; i must be below THALINGUZE_MAX_TERMS. A term from thalinguze_count(record) on has all fields 0.
+ */
+
+/* Field number `field`, 0 to 201. */
+static inline int64_t thalinguze_field(const uint8_t *record, unsigned field)
+{
+    const uint8_t *at = record + (size_t)field * THALINGUZE_FIELD_SIZE;
+    uint64_t bits = 0;
+    for (unsigned i = THALINGUZE_FIELD_SIZE; i-- > 0;)
+        bits = bits << 8 | at[i];
+    /* two's complement, without a conversion of an unsigned number that has no signed value */
+    return bits <= INT64_MAX ? (int64_t)bits : -(int64_t)(UINT64_MAX - bits) - 1;
+}
+
+/* The power of ten of the label's factor. */
+static inline int thalinguze_k(const uint8_t *record)
+{
+    return (int)thalinguze_field(record, THALINGUZE_FIELD_K);
+}
+
+/* The three verdicts, each 1 (yes) or 0 (no). */
+static inline int thalinguze_known(const uint8_t *record)
+{
+    return (int)thalinguze_field(record, THALINGUZE_FIELD_KNOWN);
+}
+
+static inline int thalinguze_lawful(const uint8_t *record)
+{
+    return (int)thalinguze_field(record, THALINGUZE_FIELD_LAWFUL);
+}
+
+static inline int thalinguze_recommended(const uint8_t *record)
+{
+    return (int)thalinguze_field(record, THALINGUZE_FIELD_RECOMMENDED);
+}
+
+/* How many terms the label has. */
+static inline unsigned thalinguze_count(const uint8_t *record)
+{
+    return (unsigned)thalinguze_field(record, THALINGUZE_FIELD_COUNT);
+}
+
+/* A field of term i: THALINGUZE_TERM_PREFIX, .. */
+static inline int64_t thalinguze_term_field(const uint8_t *record, unsigned i, unsigned field)
+{
+    return thalinguze_field(record, THALINGUZE_FIELD_TERMS + THALINGUZE_TERM_FIELDS * i + field);
+}
+
+/* The prefix code of term i. */
+static inline int thalinguze_term_prefix(const uint8_t *record, unsigned i)
+{
+    return (int)thalinguze_term_field(record, i, THALINGUZE_TERM_PREFIX);
+}
+
+/* The unit code of term i. */
+static inline int thalinguze_term_unit(const uint8_t *record, unsigned i)
+{
+    return (int)thalinguze_term_field(record, i, THALINGUZE_TERM_UNIT);
+}
+
+/* The exponent of term i, in sixtieths. */
+static inline int thalinguze_term_exponent(const uint8_t *record, unsigned i)
+{
+    return (int)thalinguze_term_field(record, i, THALINGUZE_TERM_EXPONENT);
+}
+
+/* Where the spelling of term i starts in the label, counted from 0. */
+static inline size_t thalinguze_term_start(const uint8_t *record, unsigned i)
+{
+    return (size_t)thalinguze_term_field(record, i, THALINGUZE_TERM_START);
+}
+
+/* How many bytes the spelling of term i has, prefix and quotes included. */
+static inline size_t thalinguze_term_length(const uint8_t *record, unsigned i)
+{
+    return (size_t)thalinguze_term_field(record, i, THALINGUZE_TERM_LENGTH);
+}
+
+/*
+ * The letters of term i without its prefix and quotes. For an unknown unit these are the unit's letters: "urlong" in FITS "furlong",
+ * which is read as femto and urlong; "furlong" in VOUnits "'furlong'". `label` is the label that was read. Returns where the letters
+ * start in it and stores how many there are in *length. They are not terminated by 0.
+ */
+static inline const uint8_t *thalinguze_term_letters(const uint8_t *record, unsigned i, const uint8_t *label, size_t *length)
+{
+    const uint8_t *letters = label + thalinguze_term_start(record, i);
+    size_t size = thalinguze_term_length(record, i);
+    int prefix = thalinguze_term_prefix(record, i);
+    size_t before = prefix == THALINGUZE_PREFIX_NONE ? 0 : prefix == THALINGUZE_PREFIX_DECA ? 2 : 1;
+    letters += before;
+    size -= before;
+    if (size >= 2 && letters[0] == '\'') {
+        letters += 1;
+        size -= 2;
+    }
+    *length = size;
+    return letters;
+}
+
+/* The exponent of a base, THALINGUZE_BASE_METRE .., in the label's dimensions, in sixtieths. */
+static inline int64_t thalinguze_dimension(const uint8_t *record, unsigned base)
+{
+    return thalinguze_field(record, THALINGUZE_FIELD_DIMENSIONS + base);
+}
+
+/* The exponent of a prime, THALINGUZE_PRIME_2 .., in the label's scale, in sixtieths. */
+static inline int64_t thalinguze_scale(const uint8_t *record, unsigned prime)
+{
+    return thalinguze_field(record, THALINGUZE_FIELD_SCALE + prime);
+}
+
+#ifdef __cplusplus
+}
+#endif
 
 #endif

@@ -1,0 +1,14 @@
+#!/bin/sh
+# The header's constants and the command's words, against the tables of the proved code and against the library.
+set -eu
+awk -f tests/tables.awk crates/symbols/src/tables.rt >build/tests/tables
+build/tests/header <build/tests/tables
+# the header alone, as strict C11 and, where a C++ compiler is there, as C++11
+printf '#include "thalinguze.h"\n' >build/tests/alone.c
+gcc -std=c11 -pedantic -Wall -Wextra -Wconversion -Werror -Iinclude -fsyntax-only build/tests/alone.c
+if command -v g++ >/dev/null; then
+    g++ -std=c++11 -pedantic -Wall -Wextra -Werror -Iinclude -fsyntax-only -x c++ build/tests/alone.c
+    echo 'the header compiles alone as C11 and as C++11'
+else
+    echo 'the header compiles alone as C11; not tried as C++, for want of g++'
+fi

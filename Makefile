@@ -19,6 +19,7 @@ run: all
 test: all $(TESTS)
 	@tests/vectors.sh
 	@build/tests/limits
+	@tests/library.sh
 	@tests/header.sh
 	@build/tests/advice
 	@tests/read.sh
@@ -54,7 +55,7 @@ build/tests/%: tests/%.c tests/labels.h $(HEADERS) $(LIBRARY)
 	$(CC) $(CFLAGS) -o $@ $(filter %.c,$^) $(LIBRARY)
 
 build/tests/guard build/tests/advice: CFLAGS += $(SANITIZERS)
-build/tests/advice: c/advice.c c/loose.c
+build/tests/advice: c/advice.c c/loose.c c/loose_numbers.c c/meant.c
 
 build/tests/guard-plain: tests/guard.c tests/labels.h $(HEADERS) $(LIBRARY)
 	$(CC) $(CFLAGS) -g -o $@ $< $(LIBRARY)

@@ -2,6 +2,7 @@
 #include <stdbool.h>
 #include <string.h>
 #include "advice.h"
+#include "meant.h"
 #include "report.h"
 #include "sixtieths.h"
 #include "words.h"
@@ -84,8 +85,10 @@ static void print_verdict(uint32_t notation, const uint8_t *label, const uint8_t
             continue;
         printf(blamed++ ? "; term %u, " : ", because of term %u, ", i + 1);
         print_spelling(label, record, i);
-        if (unit == THALINGUZE_UNIT_UNKNOWN)
+        if (unit == THALINGUZE_UNIT_UNKNOWN && field == THALINGUZE_FIELD_KNOWN)
             print_unknown(notation, label, record, i);
+        else if (unit == THALINGUZE_UNIT_UNKNOWN)
+            printf(": the unit is unknown");
         else if (field == THALINGUZE_FIELD_LAWFUL)
             printf(": the unit %s takes no prefix in %s", unit_words[unit].word, notation_words[notation].name);
         else
@@ -131,6 +134,16 @@ static void print_scale(const uint8_t *record)
     printf("\n");
 }
 
+/* for a term that is unknown or unlawful: what people mean by its spelling, and how to write that */
+static void print_meant(uint32_t notation, const uint8_t *label, const uint8_t *record, unsigned i)
+{
+    uint8_t alone[THALINGUZE_RECORD_SIZE];
+    const struct meant_unit *m = find_meant_unit(notation, label + thalinguze_term_start(record, i), thalinguze_term_length(record, i));
+    read_term(notation, label, record, i, alone);
+    if (m && !(thalinguze_known(alone) && thalinguze_lawful(alone)))
+        printf("If term %u is meant to be %s, write: %s\n", i + 1, m->word, m->label[notation]);
+}
+
 void report_reading(uint32_t notation, const uint8_t *label, const uint8_t *record)
 {
     unsigned count = thalinguze_count(record);
@@ -145,6 +158,8 @@ void report_reading(uint32_t notation, const uint8_t *label, const uint8_t *reco
         print_verdict(notation, label, record, field);
     print_dimensions(record);
     print_scale(record);
+    for (unsigned i = 0; i < count; i++)
+        print_meant(notation, label, record, i);
 }
 
 /* REFUSED */
@@ -166,14 +181,14 @@ static void print_condition(uint32_t notation, size_t size, uint32_t number)
         printf("%s\n", conditions[number]);
 }
 
-/* which of the other notations accept the label; it is not read in them any further */
+/* which notations accept a label that this one refuses; it is not read in them any further */
 static void print_other_notations(uint32_t notation, const uint8_t *label, size_t size)
 {
     uint8_t unread;
     uint32_t accepting[4];
     unsigned count = 0;
     for (uint32_t n = THALINGUZE_FITS; n <= THALINGUZE_VOUNITS; n++)
-        if (n != notation && thalinguze_read(n, label, size, &unread, 0) == THALINGUZE_ACCEPTED)
+        if (thalinguze_read(n, label, size, &unread, 0) == THALINGUZE_ACCEPTED)
             accepting[count++] = n;
     for (unsigned i = 0; i < count; i++)
         printf("%s%s", i == 0 ? "" : i + 1 < count ? ", " : " and ", notation_words[accepting[i]].name);

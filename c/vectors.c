@@ -138,10 +138,9 @@ int print_vectors(void)
     char *line = NULL;
     size_t room = 0, number = 0;
     int status = 0;
-    for (;;) {
-        ssize_t size = getline(&line, &room, stdin);
-        if (size < 0)
-            break;
+    ssize_t size;
+    setvbuf(stdout, NULL, _IOLBF, 0); /* an answer to each line at once, for a program that waits for it */
+    while (!ferror(stdout) && (size = getline(&line, &room, stdin)) >= 0) {
         number++;
         if (line[size - 1] == '\n')
             line[--size] = 0;

@@ -1,6 +1,7 @@
 /* Walks what the command suggests for refused labels: each suggestion must be accepted in its notation, and an accepted label must
    break no rule. */
 #include "../c/advice.h"
+#include "../c/meant.h"
 #include "../c/words.h"
 #include "labels.h"
 
@@ -38,6 +39,22 @@ static void walk_fixed_labels(void)
         for (size_t i = 0; quoted_label(n, i); i++)
             expect_accepted(n, quoted_label(n, i));
     }
+}
+
+/* what people mean by a spelling is a known unit, and lawful */
+static void walk_meant_units(void)
+{
+    uint8_t record[THALINGUZE_RECORD_SIZE];
+    for (size_t i = 0; i < meant_unit_count; i++)
+        for (uint32_t n = 1; n <= 4; n++) {
+            const char *label = meant_units[i].label[n];
+            if (!label)
+                continue;
+            expect_accepted(n, label);
+            if (thalinguze_read(n, (const uint8_t *)label, strlen(label), record, sizeof record) == 0 &&
+                !(thalinguze_known(record) && thalinguze_lawful(record) && thalinguze_count(record) == 1))
+                fail("not a known unit", n, label);
+        }
 }
 
 /* LABELS THAT PEOPLE WRITE */
@@ -151,6 +168,7 @@ int main(void)
     static uint8_t label[LABEL_ROOM];
     read_vectors("vectors/readings.tsv");
     walk_fixed_labels();
+    walk_meant_units();
     walk_expected();
     for (unsigned i = 0; i < vector_count; i++)
         for (uint32_t n = 1; n <= 4; n++)

@@ -59,10 +59,10 @@ static const char *nested(int n)
     return made;
 }
 
-int main(void)
+/* notation numbers, bytes, terms and brackets */
+static void sizes(void)
 {
     const char *const separators[] = {"", ".", " ", ".", "."};
-    /* notation numbers */
     expect(0, "m", 1, 0, 0);
     expect(5, "m", 1, 0, 0);
     expect(UINT32_MAX, "m", 1, 0, 0);
@@ -71,7 +71,6 @@ int main(void)
         expect(n, "", 0, 0, 0);
         expect_bytes(n, (const uint8_t *)"m" + 1, 0, 0, 0, 0);
         expect(n, "m", 0, 1, 0);
-        /* bytes */
         expect(n, times(255, "m"), 0, 1, 0);
         expect(n, times(256, "m"), 2, 0, 0);
         expect(n, times(256, "\n"), 2, 0, 0);
@@ -80,16 +79,18 @@ int main(void)
         expect(n, "m\xff", 3, 0, 0);
         expect_bytes(n, (const uint8_t *)"m\0m", 3, 3, 0, 0);
         expect(n, "m~", 4, 0, 0);
-        /* terms */
         expect(n, terms(32, separators[n]), 0, 32, 0);
         expect(n, terms(33, separators[n]), 7, 0, 0);
-        /* brackets */
         expect(n, nested(8), 0, 1, 0);
         expect(n, nested(9), 6, 0, 0);
         expect(n, nested(127), 6, 0, 0);
         expect(n, joined(times(127, "("), "m", ""), 4, 0, 0);
     }
-    /* exponents: 99 and 100, and digit runs of 4 and 5 */
+}
+
+/* exponents: 99 and 100, and digit runs of 4 and 5 */
+static void whole_exponents(void)
+{
     const char *const power[] = {"", "**", "**", "", "**"};
     for (uint32_t n = 1; n <= 4; n++) {
         expect(n, joined("m", power[n], "99"), 0, 1, 0);
@@ -101,6 +102,10 @@ int main(void)
         expect(n, joined("m", power[n], "0"), 4, 0, 0);
         expect(n, joined("m", power[n], "01"), 4, 0, 0);
     }
+}
+
+static void fractions(void)
+{
     expect(1, "m(99.5)", 5, 0, 0);
     expect(1, "m(1/7)", 5, 0, 0);
     expect(1, "m(7/14)", 0, 1, 0);
@@ -116,10 +121,11 @@ int main(void)
         expect(n, "m**(1/7)", 5, 0, 0);
         expect(n, "m**(99.5)", 5, 0, 0);
     }
-    /* 5 before 6, and 6 before 7 */
-    expect(1, joined("(((((((((m(1/7)", times(9, ")"), ""), 5, 0, 0);
-    expect(4, joined("(((((((((", terms(33, "."), ")))))))))"), 6, 0, 0);
-    /* factors: k 99 and 100 under each sign, in every form that the notation has */
+}
+
+/* factors: k 99 and 100 under each sign, in every form that the notation has */
+static void factors(void)
+{
     static const struct {
         uint32_t notation;
         const char *before, *after;
@@ -144,6 +150,17 @@ int main(void)
         expect(n, joined("1", times(100, "0"), "m"), 5, 0, 0);
         expect(n, joined("1", times(253, "0"), "m"), 5, 0, 0);
     }
+}
+
+int main(void)
+{
+    sizes();
+    whole_exponents();
+    fractions();
+    factors();
+    /* 5 before 6, and 6 before 7 */
+    expect(1, joined("(((((((((m(1/7)", times(9, ")"), ""), 5, 0, 0);
+    expect(4, joined("(((((((((", terms(33, "."), ")))))))))"), 6, 0, 0);
     printf("%d labels at the limits, %d differ\n", tried, wrong);
     return wrong != 0;
 }

@@ -91,7 +91,7 @@ Term 1, 'furlong': unknown unit furlong, above the line
 Power of ten: 0
 Known: no, because of term 1, 'furlong': furlong is no unit that VOUnits knows
 Lawful: yes
-Recommended: no, because of term 1, 'furlong': furlong is no unit that VOUnits knows
+Recommended: no, because of term 1, 'furlong': the unit is unknown
 Dimensions: none, with unknown units left out
 Scale: 1
 END
@@ -114,6 +114,16 @@ has 0 cds '%' 'Term 1, %: percent, above the line' 'Scale: 2 to the power -2 tim
 has 0 vou "da'm'" "Term 1, da'm': prefix deca and unknown unit m, above the line"
 has 0 vounits 'm' 'm in VOUnits'
 has 0 fits 'yr' 'Scale: 2 to the power 5 times 3 to the power 4 times 5 to the power 2 times 487'
+has 0 fits 'counts/s' 'Term 1, counts: prefix centi and unknown unit ounts, above the line' 'If term 1 is meant to be count, write: count'
+suggested fits
+has 0 ogip 'ph' 'Term 1, ph: picohour, above the line' 'If term 1 is meant to be photon, write: photon'
+suggested ogip
+has 0 cds 'm.pixel' 'If term 2 is meant to be pixel, write: pix'
+suggested cds
+has 0 fits 'count/s'
+lacks 'rite:'
+has 0 cds 'photon'
+lacks 'rite:'
 for case in 'fits:kg s/m' 'ogip:kg/m s' 'cds:kg/m.s' 'vou:kg.s/m'; do
     run read "${case%%:*}" "${case#*:}"
     grep -q '^Term [23], s: second, above the line$' "$directory/out" || fail "$case: the seconds are not above the line"

@@ -80,6 +80,7 @@ static const char *const rules[HABITS][5] = {
     [LEADING_ZERO] = IN_ALL("A number does not start with 0."),
     [ZERO_POWER] = IN_ALL("0 is no exponent: leave out what has it."),
     [SIGN_BELOW] = IN_ALL("In a fraction the sign stands in front, not after the slash."),
+    [DECIMAL_IN_FRACTION] = IN_ALL("A fraction has whole numbers above and below its slash."),
     [PLAIN_FACTOR] = {0, FITS_FACTOR, 0, 0, 0},
     [SIGNED_FACTOR] = {0, 0, OGIP_FACTOR, 0, VOUNITS_FACTOR},
     [CARET_FACTOR] = {0, 0, OGIP_FACTOR, CDS_FACTOR, VOUNITS_FACTOR},
@@ -295,10 +296,21 @@ static void blame_sign(struct advice *a, uint32_t notation, const char *label, s
     }
 }
 
+/* where a loose reading stops */
+static void blame_place(struct advice *a, const char *label, size_t size, size_t at)
+{
+    if (at >= size)
+        give_reason(a, "The label ends where something must follow.");
+    else if (label[at] == ' ')
+        give_reason(a, "The label goes wrong at place %zu, where a space stands.", at + 1);
+    else
+        give_reason(a, "The label goes wrong at place %zu, where %c stands.", at + 1, label[at]);
+}
+
 static void advise_on_grammar(struct advice *a, uint32_t notation, const char *label, size_t size)
 {
     struct loose l;
-    loose_read(&l, label, size, false);
+    bool followed = loose_read(&l, label, size, false);
     if (!l.seen[SQUARE_BRACKETS])
         blame_sign(a, 0, label, size);
     for (int h = 0; h < HABITS; h++)
@@ -306,6 +318,8 @@ static void advise_on_grammar(struct advice *a, uint32_t notation, const char *l
             give_reason(a, "%s", rules[h][notation]);
     if (a->reasons == 0)
         blame_sign(a, notation, label, size);
+    if (a->reasons == 0 && !followed)
+        blame_place(a, label, size, l.at);
 }
 
 /* the first exponent of a loose reading that breaks its bound */

@@ -59,6 +59,7 @@ static bool ratio(struct loose *l, struct ratio *r, bool spaces)
     struct ratio below = {0, 1, false};
     if (!number(l, &below) || below.numerator == 0)
         return false;
+    l->seen[DECIMAL_IN_FRACTION] |= r->fraction || below.fraction;
     r->fraction = true;
     r->numerator *= below.denominator;
     r->denominator *= below.numerator;

@@ -156,6 +156,11 @@ static void walk(uint32_t notation, const uint8_t *given, size_t size)
         advise(&a, notation, label, size, number);
         refused++;
         advised += a.suggestions > 0;
+        if (a.reasons == 0 && number != THALINGUZE_TOO_DEEP) {
+            char shown[LABEL_ROOM + 1];
+            snprintf(shown, sizeof shown, "%.*s", (int)size, (const char *)label);
+            fail("no reason", notation, shown);
+        }
         for (unsigned i = 0; i < a.suggestions; i++)
             if (!accepts(notation, a.suggestion[i].label))
                 fail("a suggestion is refused", notation, a.suggestion[i].label);

@@ -3,7 +3,8 @@
 set -eu
 build/tests/guard 100000
 if command -v valgrind >/dev/null; then
-    echo "valgrind: $(valgrind --quiet --error-exitcode=9 build/tests/guard-plain 1000)"
+    said=$(valgrind --quiet --error-exitcode=9 build/tests/guard-plain 1000) || { echo "under valgrind: $said"; exit 1; }
+    echo "under valgrind: $said"
 else
     echo 'not run under valgrind: it is not installed'
 fi

@@ -12,3 +12,9 @@ if command -v g++ >/dev/null; then
 else
     echo 'the header compiles alone as C11; not tried as C++, for want of g++'
 fi
+# the example at the top of the header
+sed -n '/^ \*     #include <stdio.h>/,/^ \*     }$/s/^ \*  \{0,5\}//p' include/thalinguze.h >build/tests/example.c
+gcc -std=c11 -Wall -Wextra -Werror -Iinclude -o build/tests/example build/tests/example.c build/libthalinguze.a
+printf 'unit %s, exponent %s sixtieths\n' 2 60 1 -60 3 60 >build/tests/example.wanted
+build/tests/example | diff - build/tests/example.wanted
+echo "the header's example prints what the header says"

@@ -181,6 +181,8 @@ has 1 cds 'sqrt(Hz)' 'CDS has whole exponents only, so roots have no form there.
 lacks 'rite:'
 has 1 ogip 'm?' 'No label has the sign ?, which stands at place 2.' 'Labels of OGIP look like these:'
 lacks 'accept the label as it stands'
+has 1 cds 'm..s' 'The label goes wrong at place 3, where . stands.'
+has 1 ogip 'm**' 'The label ends where something must follow.'
 has 1 iso 'm' 'm in iso' \
     'Refused, number 1: there is no notation of that name. The names are fits, ogip, cds and vou, in small letters.'
 has 1 '' 'm' 'Refused, number 1: there is no notation of that name. The names are fits, ogip, cds and vou, in small letters.'

@@ -58,6 +58,7 @@ build/tests/guard build/tests/advice: CFLAGS += $(SANITIZERS)
 build/tests/advice: c/advice.c c/loose.c c/loose_numbers.c c/meant.c
 
 build/tests/guard-plain: tests/guard.c tests/labels.h $(HEADERS) $(LIBRARY)
+	@mkdir -p build/tests
 	$(CC) $(CFLAGS) -g -o $@ $< $(LIBRARY)
 
 .PHONY: all run test speed clean

@@ -91,7 +91,7 @@ times-sum a (negsuc n) k = times-sum-at n a k .1
 pub widened : {z : ℤ} → SFits w32 z → SFits w64 (toZ w32 (ofZ w32 z))
 widened f = rw (toZ-ofZ f) (sfits-widen tt f)
 
-widened-is : {z : ℤ} → SFits w32 z → toZ w64 (ofZ w64 (toZ w32 (ofZ w32 z))) ≡ z
+pub widened-is : {z : ℤ} → SFits w32 z → toZ w64 (ofZ w64 (toZ w32 (ofZ w32 z))) ≡ z
 widened-is f = toZ-ofZ (widened f) ∙ toZ-ofZ f
 
 abbrev product : ℤ → ℤ → ℤ

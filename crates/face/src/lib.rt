@@ -1,14 +1,21 @@
 // What a C program calls.
-use reading::read::Reading;
 use reading::read::read;
+use record::buffer::write_over;
+use record::record::record;
 ghost use mathlib.Core.Path.{_≡_};
-ghost use Rattle.label.specs.Reading as spec;
-ghost use Rattle.reading.specs.Views.{reading-in};
+ghost use Rattle.label.specs.Reading.{reading};
+ghost use Rattle.record.specs.Record.{buffer-after};
 
-// What reading the text in a notation answers, for any number and any bytes.
+// Reads the label in a notation and answers the number of the refusal, or 0 and the reading's record in the lent buffer.
 #[no_mangle]
-pub extern "C" fn thalinguze_read(notation: u32, text: &[u8]) -> Reading
-    ensures { λ r. ⌜ reading-in (now (text .entry)) r ≡ spec.reading notation (now (text .entry)) ⌝ }
+pub extern "C" fn thalinguze_read(notation: u32, label: &[u8], buffer: &mut [u8]) -> u32
+    ensures { λ n. ⌜ n ≡ reading notation (now (label .entry)) .number ⌝ }
+    ensures { λ _. ⌜ now (buffer .exit) ≡ buffer-after (reading notation (now (label .entry))) (now (buffer .entry)) ⌝ }
 {
-    read(notation, text)
+    let r = read(notation, label);
+    if r.number != 0 {
+        return r.number as u32;
+    }
+    write_over(record(r), buffer);
+    0
 }

@@ -44,6 +44,7 @@ pub struct Reading {
 // The empty reading of refusal `i`.
 pub fn refusal(i: u8) -> Reading
     ensures { λ r. ⌜ ((s : List ℕ) → reading-in s r ≡ spec.refusal i) ⌝ }
+    ensures { λ r. ⌜ r .count ≡ 0 ⌝ }
 {
     Reading {
         number: i,
@@ -86,6 +87,7 @@ pub fn accepted(n: u8, s: &[u8], k: Tens, t: Terms) -> Reading
 // What reading the text `s` in notation `n` answers, for any number and any bytes.
 pub fn read(n: u32, s: &[u8]) -> Reading
     ensures { λ r. ⌜ reading-in (now (s .entry)) r ≡ reading n (now (s .entry)) ⌝ }
+    ensures { λ r. ⌜ (r .count ≤ 32) × (r .count ≡ length (reading n (now (s .entry)) .terms)) ⌝ }
 {
     let c = check(n, s);
     if !c.ok {

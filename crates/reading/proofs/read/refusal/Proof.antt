@@ -14,7 +14,7 @@ no-term-requires c κs = search needs
 
 returns : tie.Need-returns
 unfolding reading-in refusal up-to
-returns c = λ s. refl
+returns c = (λ s. refl, refl)
 
 pub refusal-spec : {M : Type 1} → statement M
 refusal-spec = tie.close (tie.spec no-term-requires returns)

@@ -1,0 +1,122 @@
+-- The parts of a record, one behind the other.
+use Prim.Native.Nat.{ℕ, zero, suc, _+_, _*_, _-_, _<_, _≤_}
+use native.Mathlib.Omega.{arith}
+use mathlib.Core.Path.{_≡_, refl, sym, ap, _∙_}
+use mathlib.Core.List.{List, [], _∷_, _++_, append-assoc, append-nil}
+use lib.IntN.{ℤ}
+use lib.ListN.{length, take, getD}
+use lib.Seq.{take-all}
+use Rattle.label.specs.Reading as spec
+use Rattle.content.specs.declared.term.Term.{Term}
+use Rattle.content.specs.Views.{term-in, terms-in}
+use Rattle.content.proofs.TermLaws.{one-more}
+use Rattle.record.specs.Record.{eight, encoded, no-fields, term-fields, terms-fields, empty-fields}
+
+pub encoded-join : (xs ys : List ℤ) → encoded (xs ++ ys) ≡ encoded xs ++ encoded ys
+unfolding encoded
+encoded-join [] ys = refl
+encoded-join (x ∷ xs) ys = rw (encoded-join xs ys) (sym (append-assoc (eight x) (encoded xs) (encoded ys)))
+
+-- TERMS
+
+terms-more : (ts : List spec.Term) (t : spec.Term) → terms-fields (ts ++ (t ∷ [])) ≡ terms-fields ts ++ term-fields t
+unfolding terms-fields
+terms-more [] t = append-nil (term-fields t)
+terms-more (x ∷ ts) t = rw (terms-more ts t) (sym (append-assoc (term-fields x) (terms-fields ts) (term-fields t)))
+
+five : (t : spec.Term) → length (term-fields t) ≡ 5
+unfolding term-fields
+five t = refl
+
+-- the first i terms are written
+pub record TermsPut (b₀ : List ℕ) (terms : List Term) (b : List ℕ) (i : ℕ) : Type 0 where
+  pub room : length b ≡ length b₀
+  pub bytes : (s : List ℕ) → take (48 + 40 * i) b ≡ take 48 b₀ ++ encoded (terms-fields (terms-in s i terms))
+
+pub terms₀ : (b : List ℕ) (terms : List Term) → TermsPut b terms b 0
+unfolding encoded terms-fields
+terms₀ b terms = record { room = refl; bytes = λ s. sym (append-nil (take 48 b)) }
+
+pub terms-step : {b₀ : List ℕ} (terms : List Term) (b c : List ℕ) (i : ℕ) (d : Term) (f : List ℤ) → TermsPut b₀ terms b i → i < length terms → length c ≡ length b
+    → ((s : List ℕ) → f ≡ term-fields (term-in s (getD terms i d)))
+    → take (48 + 40 * i + 8 * length f) c ≡ take (48 + 40 * i) b ++ encoded f
+    → TermsPut b₀ terms c (i + 1)
+terms-step {b₀} terms b c i d f p h l q e = record {
+  room = l ∙ p .room;
+  bytes = λ s.
+      let z : 48 + 40 * (i + 1) ≡ 48 + 40 * i + 8 * length f = omega (arith, ap length (q s), five (term-in s (getD terms i d))) in
+      let ts = terms-in s i terms in
+      let t = term-in s (getD terms i d) in
+      rw (z, e, p .bytes s, one-more s terms i d h, terms-more ts t, encoded-join (terms-fields ts) (term-fields t), ← q s)
+      (append-assoc (take 48 b₀) (encoded (terms-fields ts)) (encoded f));
+}
+
+-- PLACES WITHOUT A TERM
+
+empty-more : (n : ℕ) → 0 < n → empty-fields n ≡ no-fields ++ empty-fields (n - 1)
+unfolding empty-fields
+empty-more zero h = absurd (omega arith)
+empty-more (suc n) h = let e : suc n - 1 ≡ n = omega arith in rw e
+
+-- what is written, and the places still to come
+pub record EmptyPut (b₀ : List ℕ) (count : ℕ) (b : List ℕ) (i : ℕ) : Type 0 where
+  pub room : length b ≡ length b₀
+  pub within : i ≤ 32
+  pub bytes : take (48 + 40 * i) b ++ encoded (empty-fields (32 - i)) ≡ take (48 + 40 * count) b₀ ++ encoded (empty-fields (32 - count))
+
+pub empty₀ : (b : List ℕ) (count : ℕ) → count ≤ 32 → EmptyPut b count b count
+empty₀ b count h = record { room = refl; within = h; bytes = refl }
+
+pub empty-step : {b₀ : List ℕ} {count : ℕ} (b c : List ℕ) (i : ℕ) → EmptyPut b₀ count b i → i < 32 → length c ≡ length b
+    → take (48 + 40 * i + 8 * 5) c ≡ take (48 + 40 * i) b ++ encoded no-fields
+    → EmptyPut b₀ count c (i + 1)
+empty-step {b₀} {count} b c i p h l e = record {
+  room = l ∙ p .room;
+  within = omega arith;
+  bytes =
+      let z : 48 + 40 * (i + 1) ≡ 48 + 40 * i + 8 * 5 = omega arith in
+      let m : 32 - (i + 1) ≡ 32 - i - 1 = omega arith in
+      rw (z, m, e)
+      (append-assoc (take (48 + 40 * i) b) (encoded no-fields) (encoded (empty-fields (32 - i - 1)))
+      ∙ ap (λ (xs : List ℕ). take (48 + 40 * i) b ++ xs)
+      (sym (encoded-join no-fields (empty-fields (32 - i - 1))) ∙ ap encoded (sym (empty-more (32 - i) (omega arith))))
+      ∙ p .bytes);
+}
+
+pub empty-done : {b₀ : List ℕ} {count : ℕ} (b : List ℕ) (i : ℕ) → EmptyPut b₀ count b i → 32 ≤ i
+    → take 1328 b ≡ take (48 + 40 * count) b₀ ++ encoded (empty-fields (32 - count))
+unfolding encoded empty-fields
+empty-done b i p h =
+    let e : i ≡ 32 = omega (arith, p .within) in
+    sym (append-nil (take 1328 b)) ∙ rw e at (p .bytes)
+
+-- THE WHOLE RECORD
+
+to-left : (a b c d e : List ℕ) → a ++ (b ++ (c ++ (d ++ e))) ≡ a ++ b ++ c ++ d ++ e
+to-left a b c d e = sym (append-assoc a b (c ++ (d ++ e))) ∙ sym (append-assoc (a ++ b) c (d ++ e)) ∙ sym (append-assoc (a ++ b ++ c) d e)
+
+module _ (head dimensions scale : List ℤ) (count : ℕ) (terms : List Term) (b₁ b₂ b₃ b₄ b₅ : List ℕ) where
+  pub joined-is : length head ≡ 6 → length dimensions ≡ 32 → length scale ≡ 4 → length b₅ ≡ 1616
+      → take (0 + 8 * length head) b₁ ≡ encoded head
+      → ((s : List ℕ) → take (48 + 40 * count) b₂ ≡ take 48 b₁ ++ encoded (terms-fields (terms-in s count terms)))
+      → take 1328 b₃ ≡ take (48 + 40 * count) b₂ ++ encoded (empty-fields (32 - count))
+      → take (1328 + 8 * length dimensions) b₄ ≡ take 1328 b₃ ++ encoded dimensions
+      → take (1584 + 8 * length scale) b₅ ≡ take 1584 b₄ ++ encoded scale
+      → (s : List ℕ) → b₅ ≡ encoded (head ++ (terms-fields (terms-in s count terms) ++ (empty-fields (32 - count) ++ (dimensions ++ scale))))
+  joined-is h d c l e₁ e₂ e₃ e₄ e₅ s =
+      let x₁ : 0 + 8 * length head ≡ 48 = omega (arith, h) in
+      let x₄ : 1328 + 8 * length dimensions ≡ 1584 = omega (arith, d) in
+      let x₅ : 1584 + 8 * length scale ≡ 1616 = omega (arith, c) in
+      let ts = terms-fields (terms-in s count terms) in
+      let none = empty-fields (32 - count) in
+      let y₁ : take 48 b₁ ≡ encoded head = rw x₁ at e₁ in
+      let y₄ : take 1584 b₄ ≡ take 1328 b₃ ++ encoded dimensions = rw x₄ at e₄ in
+      let y₅ : take 1616 b₅ ≡ take 1584 b₄ ++ encoded scale = rw x₅ at e₅ in
+      sym (take-all 1616 b₅ (omega (arith, l)))
+      ∙ rw (y₅, y₄, e₃, e₂ s, y₁)
+      (sym
+      (encoded-join head (ts ++ (none ++ (dimensions ++ scale)))
+      ∙ ap (λ (xs : List ℕ). encoded head ++ xs)
+      (encoded-join ts (none ++ (dimensions ++ scale))
+      ∙ ap (λ (xs : List ℕ). encoded ts ++ xs) (encoded-join none (dimensions ++ scale) ∙ ap (λ (xs : List ℕ). encoded none ++ xs) (encoded-join dimensions scale)))
+      ∙ to-left (encoded head) (encoded ts) (encoded none) (encoded dimensions) (encoded scale)))

@@ -1,0 +1,6 @@
+pub mod Fielding
+pub mod Joining
+pub mod Lending
+pub mod Recording
+pub mod Signed
+pub mod Writing

@@ -1,0 +1,99 @@
+-- The record of a reading: the bytes that a C program gets into the buffer it lends.
+use Prim.Native.Nat.{ℕ, zero, suc, _-_, _^_, _/_, _%_}
+use mathlib.Core.Bool.{Bool, true, false}
+use mathlib.Core.List.{List, [], _∷_, _++_, map}
+use mathlib.Core.Option.{Option, none, some}
+use lib.Dec.{eqb}
+use lib.IntN.{ℤ, pos, negsuc}
+use lib.ListN.{length, take, drop}
+use Rattle.label.specs.declared.Exponent.{Exponent}
+use Rattle.label.specs.declared.Tens.{Tens}
+use Rattle.label.specs.Choice.{pick}
+use Rattle.label.specs.Limits.{most-terms}
+use Rattle.label.specs.Symbols.{Symbol, known, unknown}
+use Rattle.label.specs.Reading.{Term, Reading}
+
+-- A NUMBER IN EIGHT BYTES
+
+-- the number that 64 bits hold for z in two's complement
+unfoldable pub complement : ℤ → ℕ
+complement (pos n) = n
+complement (negsuc n) = 2 ^ 64 - suc n
+
+-- the last so many digits of n in base 256, the lowest first
+unfoldable pub digits : ℕ → ℕ → List ℕ
+digits zero n = []
+digits (suc w) n = n % 256 ∷ digits w (n / 256)
+
+unfoldable pub eight : ℤ → List ℕ
+eight z = digits 8 (complement z)
+
+unfoldable pub encoded : List ℤ → List ℕ
+encoded [] = []
+encoded (z ∷ zs) = eight z ++ encoded zs
+
+-- THE NUMBERS OF A READING
+
+abbrev pub flag : Bool → ℤ
+flag true = pos 1
+flag false = pos 0
+
+-- one more than a place in a table; 0 is none
+abbrev pub code : Option ℕ → ℕ
+code none = 0
+code (some i) = suc i
+
+unfoldable pub prefix-code : Symbol → ℕ
+prefix-code (known p u) = code p
+prefix-code (unknown p l) = code p
+
+unfoldable pub unit-code : Symbol → ℕ
+unit-code (known p u) = code (some u)
+unit-code (unknown p l) = code none
+
+-- a term: prefix, unit, exponent in sixtieths, and where the spelling stands
+unfoldable pub term-fields : Term → List ℤ
+term-fields t = pos (prefix-code (t .symbol)) ∷ pos (unit-code (t .symbol)) ∷ t .exponent .0 ∷ pos (t .start) ∷ pos (t .size) ∷ []
+
+-- a place without a term
+abbrev pub no-fields : List ℤ
+no-fields = pos 0 ∷ pos 0 ∷ pos 0 ∷ pos 0 ∷ pos 0 ∷ []
+
+unfoldable pub terms-fields : List Term → List ℤ
+terms-fields [] = []
+terms-fields (t ∷ ts) = term-fields t ++ terms-fields ts
+
+-- so many places without a term
+unfoldable pub empty-fields : ℕ → List ℤ
+empty-fields zero = []
+empty-fields (suc n) = no-fields ++ empty-fields n
+
+abbrev pub sixtieths : Exponent → ℤ
+sixtieths e = e .0
+
+-- number, k, verdicts, and how many terms
+abbrev pub head-of : ℕ → Tens → Bool → Bool → Bool → ℕ → List ℤ
+head-of n k a b c count = pos n ∷ k .0 ∷ flag a ∷ flag b ∷ flag c ∷ pos count ∷ []
+
+unfoldable pub head-fields : Reading → List ℤ
+head-fields r = head-of (r .number) (r .k) (r .known) (r .lawful) (r .recommended) (length (r .terms))
+
+-- then 32 places for terms, the exponent of each base, and the exponents of 2, 3, 5 and 487
+unfoldable pub fields : Reading → List ℤ
+fields r =
+    head-fields r
+    ++ (terms-fields (r .terms)
+    ++ (empty-fields (most-terms - length (r .terms)) ++ (map sixtieths (r .dimensions) ++ map sixtieths (r .scale))))
+
+unfoldable pub record-of : Reading → List ℕ
+record-of r = encoded (fields r)
+
+-- THE LENT BUFFER
+
+-- the buffer b with xs written over it from its start, as far as they fit
+unfoldable pub written-over : List ℕ → List ℕ → List ℕ
+written-over xs b = take (length b) xs ++ drop (length xs) b
+
+-- an accepted reading writes its record; a refusal changes no byte
+unfoldable pub buffer-after : Reading → List ℕ → List ℕ
+buffer-after r b = pick (eqb (r .number) 0) (written-over (record-of r) b) b

@@ -224,7 +224,25 @@ static void put_label(struct writer *w, const struct loose *l)
     put(w, below > 1 ? ")" : "");
 }
 
-/* adds the loose reading as the notation writes it, if the library accepts it with these terms */
+/* how many terms above or below the line the record has from i on, each with the spelling and the exponent of the loose reading */
+static unsigned same_terms(const uint8_t *record, const char *text, const struct loose *l, bool below, unsigned i)
+{
+    unsigned same = 0;
+    for (unsigned j = 0; j < l->count; j++) {
+        const struct loose_term *t = &l->terms[j];
+        if (t->below != below || t->numerator == 0)
+            continue;
+        size_t start = thalinguze_term_start(record, i), length = thalinguze_term_length(record, i);
+        int64_t exponent = (int64_t)thalinguze_term_exponent(record, i) * (below ? -1 : 1);
+        if (length == t->length && memcmp(text + start, l->text + t->start, length) == 0
+            && exponent * t->denominator == t->numerator * THALINGUZE_SIXTIETHS)
+            same++;
+        i++;
+    }
+    return same;
+}
+
+/* adds the loose reading as the notation writes it, if the library reads just these terms out of it */
 static void suggest(struct advice *a, uint32_t notation, const struct loose *l, const char *when)
 {
     struct writer w = {.notation = notation, .fits = true};
@@ -236,6 +254,9 @@ static void suggest(struct advice *a, uint32_t notation, const struct loose *l, 
     if (!w.fits || thalinguze_read(notation, (const uint8_t *)w.text, w.at, record, sizeof record) != THALINGUZE_ACCEPTED)
         return;
     if (thalinguze_count(record) != count || thalinguze_k(record) != l->k)
+        return;
+    unsigned above = same_terms(record, w.text, l, false, 0);
+    if (above + same_terms(record, w.text, l, true, above) != count)
         return;
     if (a->suggestions && strcmp(a->suggestion[0].label, w.text) == 0)
         return;

@@ -5,7 +5,6 @@ export LABEL = kg/m.s
 CC = gcc
 CFLAGS = -std=c11 -O2 -Wall -Wextra -Werror
 SANITIZERS = -g -fsanitize=address,undefined -fno-sanitize-recover=all
-FACE = target/staticlib/libface.a
 LIBRARY = build/libthalinguze.a
 HEADERS = include/thalinguze.h $(wildcard c/*.h)
 PARTS = $(patsubst c/%.c,build/%.o,$(wildcard c/*.c))
@@ -23,6 +22,7 @@ test: all $(TESTS)
 	@tests/header.sh
 	@build/tests/advice
 	@tests/read.sh
+	@tests/readme.sh
 	@tests/guard.sh
 
 speed: build/tests/speed
@@ -31,17 +31,13 @@ speed: build/tests/speed
 clean:
 	rm -rf build
 
-# The proofs are checked before the library is made. A line for each proved crate is shown; the whole log stays in target/.
-target/staticlib/libface.a: crates.txt $(shell find crates -name '*.rt' -o -name '*.antt')
-	@mkdir -p target
-	@echo 'checking the proofs of the reader and building its library: some minutes'
-	@{ rt staticlib face 2>&1; echo "exit status $$?"; } | tee target/staticlib.log | grep --line-buffered '^rt: ' || true
-	@tail -n 1 target/staticlib.log | grep -qx 'exit status 0' || { tail -n 20 target/staticlib.log; false; }
-	@touch $@
-
-$(LIBRARY): $(FACE)
+# The proofs are checked before the library is made. A line for each proved crate is shown; the whole log stays in build/.
+$(LIBRARY): crates.txt $(shell find crates -name '*.rt' -o -name '*.antt')
 	@mkdir -p build
-	cp $(FACE) $@
+	@echo 'checking the proofs of the reader and building its library: some minutes'
+	@{ rt staticlib face 2>&1; echo "exit status $$?"; } | tee build/library.log | grep --line-buffered '^rt: ' || true
+	@tail -n 1 build/library.log | grep -qx 'exit status 0' || { tail -n 20 build/library.log; false; }
+	cp target/staticlib/libface.a $@
 
 build/%.o: c/%.c $(HEADERS)
 	@mkdir -p build

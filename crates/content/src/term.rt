@@ -2,7 +2,6 @@
 use label::Exponent;
 use symbols::Symbol;
 
-#[repr(C)]
 pub struct Term {
     // What its spelling stands for.
     pub symbol: Symbol,

@@ -1,11 +1,9 @@
 // Unit labels. The definitions of specs/ say what a label means; this file has the types that they share with the code.
 
 // An exponent, counted in sixtieths.
-#[repr(C)]
 pub struct Exponent(pub i32);
 
 // A power of ten, counted in tens.
-#[repr(C)]
 pub struct Tens(pub i32);
 
 // The rules by which a notation reads its labels.

@@ -24,7 +24,6 @@ ghost use Rattle.descent.specs.Terms.{AllIn};
 ghost use Rattle.reading.specs.Views.{reading-in};
 ghost use Rattle.reading.specs.Answers.{Accepted};
 
-#[repr(C)]
 pub struct Reading {
     // 0, or the number of the refusal.
     pub number: u8,

@@ -1,6 +1,7 @@
 pub mod Fielding
 pub mod Joining
 pub mod Lending
+pub mod ReadingBack
 pub mod Recording
 pub mod Signed
 pub mod Writing

@@ -1,11 +1,13 @@
 -- The record of a reading: the bytes that a C program gets into the buffer it lends.
-use Prim.Native.Nat.{ℕ, zero, suc, _-_, _^_, _/_, _%_}
+use Prim.Native.Nat.{ℕ, zero, suc, _+_, _*_, _-_, _<_, _^_, _/_, _%_}
+use mathlib.Core.Path.{_≡_}
 use mathlib.Core.Bool.{Bool, true, false}
 use mathlib.Core.List.{List, [], _∷_, _++_, map}
 use mathlib.Core.Option.{Option, none, some}
-use lib.Dec.{eqb}
+use lib.Dec.{eqb, ltb}
 use lib.IntN.{ℤ, pos, negsuc}
 use lib.ListN.{length, take, drop}
+use lib.Signed.{mag}
 use Rattle.label.specs.declared.Exponent.{Exponent}
 use Rattle.label.specs.declared.Tens.{Tens}
 use Rattle.label.specs.Choice.{pick}
@@ -27,6 +29,19 @@ digits (suc w) n = n % 256 ∷ digits w (n / 256)
 
 unfoldable pub eight : ℤ → List ℕ
 eight z = digits 8 (complement z)
+
+-- the number that digits in base 256 stand for, the lowest first
+unfoldable pub value : List ℕ → ℕ
+value [] = 0
+value (d ∷ ds) = d + 256 * value ds
+
+-- the number that 64 bits stand for in two's complement
+unfoldable pub signed : ℕ → ℤ
+signed n = pick (ltb n (2 ^ 63)) (pos n) (negsuc (2 ^ 64 - suc n))
+
+-- what is claimed of eight bytes: a number of 64 bits is read back from them
+abbrev pub ReadBack : Type 0
+ReadBack = (z : ℤ) → mag z < 2 ^ 63 → signed (value (eight z)) ≡ z
 
 unfoldable pub encoded : List ℤ → List ℕ
 encoded [] = []

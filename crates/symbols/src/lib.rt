@@ -5,7 +5,6 @@ pub mod spelling;
 pub mod tables;
 
 // What a spelling stands for.
-#[repr(C)]
 pub struct Symbol {
     // Whether its unit is known.
     pub known: bool,

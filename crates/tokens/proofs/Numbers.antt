@@ -2,10 +2,10 @@
 use Prim.Native.Nat.{ℕ, _≤_, _<_, _+_}
 use native.Mathlib.Omega.{arith}
 use mathlib.Core.Path.{_≡_, refl, ap, _∙_}
-use mathlib.Core.Bool.{Bool, true, false}
+use mathlib.Core.Bool.{Bool, true, false, not}
 use mathlib.Core.List.{List, [], _∷_}
 use lib.ListN.{length, drop, getD}
-use borrow.Author.Tests.{ne-eqb}
+use borrow.Author.Tests.{not-true, not-false, ne-eqb}
 use Rattle.label.specs.Bytes.{digit, nonzero, run, past}
 use Rattle.label.specs.Choice.{pick}
 use Rattle.label.specs.Parse.{Found, none, found, mapped, unsigned, digits, numeral, integer}
@@ -13,28 +13,37 @@ use Rattle.label.specs.Ranges.{digits-in, numeral-in, Inside}
 use Rattle.scan.specs.Runs.{Run}
 use Rattle.tokens.specs.declared.number.DigitsAt.{DigitsAt}
 use Rattle.tokens.specs.declared.number.IntegerAt.{IntegerAt}
-use Rattle.tokens.specs.Answers.{ReadsDigits, Signs, ReadsInteger, digits-found}
+use Rattle.tokens.specs.Answers.{LedBy, ReadsDigits, Signs, ReadsInteger, digits-found}
 use Rattle.scan.specs.Founds.{found-by}
 use Rattle.scan.proofs.Slices.{here, beyond, between-cons}
 
 abbrev pub no-digits : ℕ → DigitsAt
 no-digits at = record { ok = false; digits = record { start = at; end = at } }
 
--- RUNS OF DIGITS WHOSE FIRST IS OF A CLASS
+-- RUNS OF DIGITS
 
+module _ {s : List ℕ} {at : ℕ} where
+  pub led₁ : {b : Bool} → at < length s → not b ≡ true → LedBy b s at (no-digits at)
+  led₁ {b} h e = record { is = rw (not-true b e); ahead = omega arith; inside = record { forward = omega arith; within = omega arith } }
+
+  pub led₂ : {b : Bool} {e : ℕ} → at < length s → not b ≡ false → Run digit s (at + 1) e → LedBy b s at (record { ok = true; digits = record { start = at; end = e } })
+  led₂ {b} {e} h q w = record {
+    is = rw (not-false b q, ← w .bytes, ← w .rest, ← between-cons s at e (omega (arith, w .from)) (w .within));
+    ahead = omega arith;
+    inside = record { forward = omega (arith, w .from); within = w .within };
+  }
+
+-- digits whose first is of a class
 module _ (p : ℕ → Bool) (f : List ℕ → Found (List ℕ)) (f-end : f [] ≡ none)
     (f-byte : (c : ℕ) (u : List ℕ) → f (c ∷ u) ≡ pick (p c) (found (c ∷ run digit u) (past digit u)) none) {s : List ℕ} {at : ℕ} where
   ends-here : at ≤ length s → length s ≤ at → ReadsDigits f s at (no-digits at)
   ends-here h g = record { is = rw (beyond s at g) f-end; ahead = omega arith; inside = record { forward = omega arith; within = h } }
 
-  no-first : at < length s → p (getD s at 0) ≡ false → ReadsDigits f s at (no-digits at)
-  no-first h e = record { is = ap f (here s at h) ∙ f-byte (getD s at 0) (drop (at + 1) s) ∙ (rw e); ahead = omega arith; inside = record { forward = omega arith; within = omega arith } }
-
-  first-and-run : {e : ℕ} → at < length s → p (getD s at 0) ≡ true → Run digit s (at + 1) e → ReadsDigits f s at (record { ok = true; digits = record { start = at; end = e } })
-  first-and-run {e} h q w = record {
-    is = ap f (here s at h) ∙ f-byte (getD s at 0) (drop (at + 1) s) ∙ (rw (q, ← w .bytes, ← w .rest, ← between-cons s at e (omega (arith, w .from)) (w .within)));
-    ahead = omega arith;
-    inside = record { forward = omega (arith, w .from); within = w .within };
+  led-here : {b : Bool} {o : DigitsAt} → at < length s → b ≡ p (getD s at 0) → LedBy b s at o → ReadsDigits f s at o
+  led-here h e w = record {
+    is = ap f (here s at h) ∙ f-byte (getD s at 0) (drop (at + 1) s) ∙ rw (← e) (w .is);
+    ahead = w .ahead;
+    inside = w .inside;
   }
 
 unsigned-end : unsigned [] ≡ none
@@ -57,20 +66,14 @@ module _ {s : List ℕ} {at : ℕ} where
   pub unsigned₁ : at ≤ length s → length s ≤ at → ReadsDigits unsigned s at (no-digits at)
   unsigned₁ = ends-here nonzero unsigned unsigned-end unsigned-byte
 
-  pub unsigned₂ : at < length s → nonzero (getD s at 0) ≡ false → ReadsDigits unsigned s at (no-digits at)
-  unsigned₂ = no-first nonzero unsigned unsigned-end unsigned-byte
-
-  pub unsigned₃ : {e : ℕ} → at < length s → nonzero (getD s at 0) ≡ true → Run digit s (at + 1) e → ReadsDigits unsigned s at (record { ok = true; digits = record { start = at; end = e } })
-  unsigned₃ = first-and-run nonzero unsigned unsigned-end unsigned-byte
+  pub unsigned₂ : {b : Bool} {o : DigitsAt} → at < length s → b ≡ nonzero (getD s at 0) → LedBy b s at o → ReadsDigits unsigned s at o
+  unsigned₂ = led-here nonzero unsigned unsigned-end unsigned-byte
 
   pub digits₁ : at ≤ length s → length s ≤ at → ReadsDigits digits s at (no-digits at)
   digits₁ = ends-here digit digits digits-end digits-byte
 
-  pub digits₂ : at < length s → digit (getD s at 0) ≡ false → ReadsDigits digits s at (no-digits at)
-  digits₂ = no-first digit digits digits-end digits-byte
-
-  pub digits₃ : {e : ℕ} → at < length s → digit (getD s at 0) ≡ true → Run digit s (at + 1) e → ReadsDigits digits s at (record { ok = true; digits = record { start = at; end = e } })
-  digits₃ = first-and-run digit digits digits-end digits-byte
+  pub digits₂ : {b : Bool} {o : DigitsAt} → at < length s → b ≡ digit (getD s at 0) → LedBy b s at o → ReadsDigits digits s at o
+  digits₂ = led-here digit digits digits-end digits-byte
 
 -- INTEGERS
 

@@ -10,18 +10,19 @@ use lib.Seq.{drop-drop}
 use native.Mathlib.Decide.{decLt}
 use borrow.Author.Tests.{ne-eqb, not-true, not-false}
 use Rattle.label.specs.declared.Rules.{Rules}
-use Rattle.label.specs.declared.Digits.{Digits}
 use Rattle.label.specs.declared.SignedDigits.{SignedDigits}
 use Rattle.label.specs.declared.WrittenPower.{WrittenPower}
 use Rattle.label.specs.declared.WrittenPower.the-variants.{Unwritten, Whole, Decimal, Fraction}
 use Rattle.label.specs.Bytes.{digit}
 use Rattle.label.specs.Lexical.{Numeral, Written, unwritten, whole, decimal, fraction}
 use Rattle.label.specs.Parse.{Found, none, found, then, mapped, byte, closed, unsigned, digits, sign, integer, bracketed-on, bracketed, power, starred, exponent}
-use Rattle.label.specs.Ranges.{digits-in, numeral-in, written-in, Inside, PowerInside}
+use Rattle.label.specs.Ranges.{digits-in, numeral-in, Inside, PowerInside}
 use Rattle.tokens.specs.declared.number.DigitsAt.{DigitsAt}
 use Rattle.tokens.specs.declared.number.IntegerAt.{IntegerAt}
 use Rattle.tokens.specs.declared.power.PowerAt.{PowerAt}
-use Rattle.tokens.specs.Answers.{ReadsDigits, ReadsInteger, ReadsPower, begins, ClosesBy, ClosesDecimal, ClosesFraction, ReadsOn, ReadsExponent, Powers, StarredFrom}
+use Rattle.tokens.specs.Answers.{ReadsDigits, ReadsInteger, ReadsPower, begins, Closes, ReadsOn, ReadsExponent, Powers, StarredFrom}
+use Rattle.label.proofs.Basics.{and-left, and-right}
+use Rattle.scan.specs.Founds.{found-by}
 use Rattle.scan.proofs.Slices.{here, beyond}
 use Rattle.tokens.proofs.Numbers.{mapped-by}
 
@@ -64,50 +65,28 @@ begins-room s at e = go (decLt at (length s))
 pub close-found : {A : Type 0} (s : List ℕ) (at : ℕ) (a : A) → begins 41 (drop at s) ≡ true → byte 41 a (drop at s) ≡ found a (drop (at + 1) s)
 close-found s at a e = byte-closes a (drop at s) e ∙ ap (λ (u : List ℕ). found a u) (drop-drop 1 at s)
 
--- digits and the closing bracket, for a decimal and for a fraction
-module _ (f : Numeral → List ℕ → Written) (K : SignedDigits → Digits → WrittenPower)
-    (same : (s : List ℕ) (n : SignedDigits) (d : Digits) → written-in s (K n d) ≡ f (numeral-in s n) (digits-in s d))
-    (within : (s : List ℕ) (n : SignedDigits) (d : Digits) → Inside s (n .digits) → Inside s d → PowerInside s (K n d))
-    {s : List ℕ} {n : SignedDigits} {d : DigitsAt} where
-  closed-none : not (d .ok) ≡ true → Inside s (d .digits) → ClosesBy f s n d (no-power (d .digits .end))
+not-closed : (s : List ℕ) (ds : List ℕ) (end : ℕ) (f : List ℕ → Written) (ok : Bool) {r : Bool} → r ≡ begins 41 (drop end s) → (ok && r) ≡ false
+    → closed f (found-by ok ds (drop end s)) ≡ none
+unfolding closed then
+not-closed s ds end f true b e = byte-no-close _ _ (sym b ∙ e)
+not-closed s ds end f false b e = refl
+
+-- digits and the closing bracket
+module _ {s : List ℕ} {d : DigitsAt} {r t : Bool} (b : r ≡ begins 41 (drop (d .digits .end) s)) (q : t ≡ (d .ok && r)) where
+  pub closed₁ : {p : WrittenPower} → t ≡ true → PowerInside s p → Closes s d p (record { ok = true; next = d .digits .end + 1; power = p })
   unfolding closed then
-  closed-none e i = record { is = rw (not-true (d .ok) e); ahead = omega arith; within = i .within; inside = tt }
+  closed₁ e j =
+      let h = and-left (d .ok) r (sym q ∙ e) in
+      let g = and-right (d .ok) r (sym q ∙ e) in
+      record {
+        is = λ f w. rw (h, w) (close-found s (d .digits .end) _ (sym b ∙ g));
+        ahead = omega arith;
+        within = omega (arith, begins-room s (d .digits .end) (sym b ∙ g));
+        inside = j;
+      }
 
-  closed-open : not (d .ok) ≡ false → Inside s (d .digits) → begins 41 (drop (d .digits .end) s) ≡ false → ClosesBy f s n d (no-power (d .digits .end))
-  unfolding closed then
-  closed-open e i b = record { is = rw (not-false (d .ok) e) (byte-no-close _ _ b); ahead = omega arith; within = i .within; inside = tt }
-
-  closed-all : not (d .ok) ≡ false → Inside s (n .digits) → Inside s (d .digits) → begins 41 (drop (d .digits .end) s) ≡ true
-      → ClosesBy f s n d (record { ok = true; next = d .digits .end + 1; power = K n (d .digits) })
-  unfolding closed then
-  closed-all e j i b = record {
-    is = rw (not-false (d .ok) e, same s n (d .digits)) (close-found s (d .digits .end) _ b);
-    ahead = omega arith;
-    within = omega (arith, begins-room s (d .digits .end) b);
-    inside = within s n (d .digits) j i;
-  }
-
-module _ {s : List ℕ} {n : SignedDigits} {d : DigitsAt} where
-  pub decimal₁ : not (d .ok) ≡ true → Inside s (d .digits) → ClosesDecimal s n d (no-power (d .digits .end))
-  decimal₁ = closed-none decimal Decimal (λ s n d. refl) (λ s n d i j. (i, j))
-
-  pub fraction₁ : not (d .ok) ≡ true → Inside s (d .digits) → ClosesFraction s n d (no-power (d .digits .end))
-  fraction₁ = closed-none fraction Fraction (λ s n d. refl) (λ s n d i j. (i, j))
-
-module _ {s : List ℕ} {n : SignedDigits} {d : DigitsAt} {r : Bool} where
-  pub decimal₂ : not (d .ok) ≡ false → Inside s (n .digits) → Inside s (d .digits) → r ≡ begins 41 (drop (d .digits .end) s) → r ≡ true
-      → ClosesDecimal s n d (record { ok = true; next = d .digits .end + 1; power = Decimal n (d .digits) })
-  decimal₂ e j i b t = closed-all decimal Decimal (λ s n d. refl) (λ s n d i j. (i, j)) e j i (sym b ∙ t)
-
-  pub decimal₃ : not (d .ok) ≡ false → Inside s (d .digits) → r ≡ begins 41 (drop (d .digits .end) s) → r ≡ false → ClosesDecimal s n d (no-power (d .digits .end))
-  decimal₃ e i b t = closed-open decimal Decimal (λ s n d. refl) (λ s n d i j. (i, j)) e i (sym b ∙ t)
-
-  pub fraction₂ : not (d .ok) ≡ false → Inside s (n .digits) → Inside s (d .digits) → r ≡ begins 41 (drop (d .digits .end) s) → r ≡ true
-      → ClosesFraction s n d (record { ok = true; next = d .digits .end + 1; power = Fraction n (d .digits) })
-  fraction₂ e j i b t = closed-all fraction Fraction (λ s n d. refl) (λ s n d i j. (i, j)) e j i (sym b ∙ t)
-
-  pub fraction₃ : not (d .ok) ≡ false → Inside s (d .digits) → r ≡ begins 41 (drop (d .digits .end) s) → r ≡ false → ClosesFraction s n d (no-power (d .digits .end))
-  fraction₃ e i b t = closed-open fraction Fraction (λ s n d. refl) (λ s n d i j. (i, j)) e i (sym b ∙ t)
+  pub closed₂ : {p : WrittenPower} → t ≡ false → Inside s (d .digits) → Closes s d p (no-power (d .digits .end))
+  closed₂ e i = record { is = λ f w. not-closed s (digits-in s (d .digits)) (d .digits .end) f (d .ok) b (sym q ∙ e); ahead = omega arith; within = i .within; inside = tt }
 
 -- POWERS IN BRACKETS
 
@@ -140,22 +119,22 @@ module _ {s : List ℕ} {n : SignedDigits} {at : ℕ} where
   pub bracketed-on₂ : at < length s → getD s at 0 ≡ 41 → Inside s (n .digits) → ReadsOn s n at (record { ok = true; next = at + 1; power = Whole n })
   bracketed-on₂ h e i = record { reads = record { is = on-close s at (numeral-in s n) h e; ahead = omega arith; within = omega arith; inside = i } }
 
-  pub bracketed-on₃ : {d : DigitsAt} {o : PowerAt} → at < length s → getD s at 0 ≡ 46 → ReadsDigits digits s (at + 1) d → ClosesDecimal s n d o
+  pub bracketed-on₃ : {d : DigitsAt} {o : PowerAt} → at < length s → getD s at 0 ≡ 46 → ReadsDigits digits s (at + 1) d → Closes s d (Decimal n (d .digits)) o
       → ReadsOn s n at o
   bracketed-on₃ h e w v = record {
     reads = record {
-      is = on-point s at (numeral-in s n) h e ∙ ap (λ (x : Found (List ℕ)). closed (decimal (numeral-in s n)) x) (w .is) ∙ v .is;
+      is = on-point s at (numeral-in s n) h e ∙ ap (λ (x : Found (List ℕ)). closed (decimal (numeral-in s n)) x) (w .is) ∙ v .is (decimal (numeral-in s n)) refl;
       ahead = omega (arith, w .ahead, w .inside .forward, v .ahead);
       within = v .within;
       inside = v .inside;
     };
   }
 
-  pub bracketed-on₄ : {d : DigitsAt} {o : PowerAt} → at < length s → getD s at 0 ≡ 47 → ReadsDigits unsigned s (at + 1) d → ClosesFraction s n d o
+  pub bracketed-on₄ : {d : DigitsAt} {o : PowerAt} → at < length s → getD s at 0 ≡ 47 → ReadsDigits unsigned s (at + 1) d → Closes s d (Fraction n (d .digits)) o
       → ReadsOn s n at o
   bracketed-on₄ h e w v = record {
     reads = record {
-      is = on-slash s at (numeral-in s n) h e ∙ ap (λ (x : Found (List ℕ)). closed (fraction (numeral-in s n)) x) (w .is) ∙ v .is;
+      is = on-slash s at (numeral-in s n) h e ∙ ap (λ (x : Found (List ℕ)). closed (fraction (numeral-in s n)) x) (w .is) ∙ v .is (fraction (numeral-in s n)) refl;
       ahead = omega (arith, w .ahead, w .inside .forward, v .ahead);
       within = v .within;
       inside = v .inside;

@@ -4,12 +4,15 @@ use mathlib.Core.Path.{_≡_}
 use mathlib.Core.Bool.{Bool, false}
 use mathlib.Core.List.{List, [], _∷_}
 use lib.Dec.{eqb}
-use lib.ListN.{length, drop}
-use Rattle.label.specs.Lexical.{Numeral, Written, decimal, fraction, Factor, ten-to}
-use Rattle.label.specs.Parse.{Found, closed, bracketed-on, starred, exponent, plain-factor, wrapped, starred-factor, ten-factor, factor}
+use lib.ListN.{length, drop, getD}
+use Rattle.label.specs.Bytes.{digit, run, past}
+use Rattle.label.specs.Choice.{pick}
+use Rattle.label.specs.Lexical.{Numeral, Written, Factor, ten-to}
+use Rattle.label.specs.Parse.{Found, none, found, closed, bracketed-on, starred, exponent, plain-factor, wrapped, starred-factor, ten-factor, factor}
 use Rattle.label.specs.Ranges.{between, digits-in, numeral-in, written-in, factor-in, Inside, PowerInside, FactorInside}
 use Rattle.label.specs.declared.Rules.{Rules}
 use Rattle.label.specs.declared.SignedDigits.{SignedDigits}
+use Rattle.label.specs.declared.WrittenPower.{WrittenPower}
 use Rattle.label.specs.declared.WrittenPower.the-variants.{Whole}
 use Rattle.label.specs.declared.WrittenFactor.the-variants.{TenTo}
 use Rattle.scan.specs.Founds.{found-by}
@@ -17,6 +20,13 @@ use Rattle.tokens.specs.declared.factor.FactorAt.{FactorAt}
 use Rattle.tokens.specs.declared.number.DigitsAt.{DigitsAt}
 use Rattle.tokens.specs.declared.number.IntegerAt.{IntegerAt}
 use Rattle.tokens.specs.declared.power.PowerAt.{PowerAt}
+
+-- a first digit at `at`, if the flag is set, and further digits
+pub record LedBy (first : Bool) (s : List ℕ) (at : ℕ) (o : DigitsAt) : Type 0 where
+  pub is : pick first (found (getD s at 0 ∷ run digit (drop (at + 1) s)) (past digit (drop (at + 1) s))) none
+      ≡ found-by (o .ok) (digits-in s (o .digits)) (drop (o .digits .end) s)
+  pub ahead : at ≤ o .digits .start
+  pub inside : Inside s (o .digits)
 
 pub record ReadsDigits (f : List ℕ → Found (List ℕ)) (s : List ℕ) (at : ℕ) (o : DigitsAt) : Type 0 where
   pub is : f (drop at s) ≡ found-by (o .ok) (digits-in s (o .digits)) (drop (o .digits .end) s)
@@ -43,21 +53,16 @@ unfoldable pub begins : ℕ → List ℕ → Bool
 begins c [] = false
 begins c (d ∷ s) = eqb d c
 
--- digits found behind the integer n of a power in brackets, and the closing bracket
 abbrev pub digits-found : List ℕ → DigitsAt → Found (List ℕ)
 digits-found s d = found-by (d .ok) (digits-in s (d .digits)) (drop (d .digits .end) s)
 
-pub record ClosesBy (f : Numeral → List ℕ → Written) (s : List ℕ) (n : SignedDigits) (d : DigitsAt) (o : PowerAt) : Type 0 where
-  pub is : closed (f (numeral-in s n)) (digits-found s d) ≡ found-by (o .ok) (written-in s (o .power)) (drop (o .next) s)
+-- the power p, which the digits end, where the closing bracket stands behind them
+pub record Closes (s : List ℕ) (d : DigitsAt) (p : WrittenPower) (o : PowerAt) : Type 0 where
+  pub is : (f : List ℕ → Written) → f (digits-in s (d .digits)) ≡ written-in s p
+      → closed f (digits-found s d) ≡ found-by (o .ok) (written-in s (o .power)) (drop (o .next) s)
   pub ahead : d .digits .end ≤ o .next
   pub within : o .next ≤ length s
   pub inside : PowerInside s (o .power)
-
-abbrev pub ClosesDecimal : List ℕ → SignedDigits → DigitsAt → PowerAt → Type 0
-ClosesDecimal = ClosesBy decimal
-
-abbrev pub ClosesFraction : List ℕ → SignedDigits → DigitsAt → PowerAt → Type 0
-ClosesFraction = ClosesBy fraction
 
 -- what follows the integer n of a power in brackets
 pub record ReadsOn (s : List ℕ) (n : SignedDigits) (at : ℕ) (o : PowerAt) : Type 0 where

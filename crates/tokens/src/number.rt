@@ -3,10 +3,10 @@ use label::Digits;
 use label::SignedDigits;
 use scan::class::is_digit;
 use scan::class::is_nonzero;
-ghost use Prim.Native.Nat.{_≤_};
+ghost use Prim.Native.Nat.{_≤_, _<_};
 ghost use lib.ListN.{length};
 ghost use Rattle.label.specs.Parse.{unsigned, digits, integer};
-ghost use Rattle.tokens.specs.Answers.{ReadsDigits, ReadsInteger, Signs};
+ghost use Rattle.tokens.specs.Answers.{LedBy, ReadsDigits, ReadsInteger, Signs};
 
 // Digits from a place on, or none where `ok` is false.
 pub struct DigitsAt {
@@ -20,6 +20,24 @@ pub struct IntegerAt {
     pub integer: SignedDigits,
 }
 
+// A byte that may be a first digit, as `first` says, and further digits.
+fn led_by(s: &[u8], at: usize, first: bool) -> DigitsAt
+    requires { ⌜ at < length (now s) ⌝ }
+    ensures { λ o. ⌜ LedBy first (now (s .entry)) at o ⌝ }
+{
+    if !first {
+        return DigitsAt {
+            ok: false,
+            digits: Digits { start: at, end: at },
+        };
+    }
+    let end = scan::run::digits(s, at + 1);
+    DigitsAt {
+        ok: true,
+        digits: Digits { start: at, end },
+    }
+}
+
 // A digit 1 to 9, further digits.
 pub fn unsigned(s: &[u8], at: usize) -> DigitsAt
     requires { ⌜ at ≤ length (now s) ⌝ }
@@ -31,17 +49,7 @@ pub fn unsigned(s: &[u8], at: usize) -> DigitsAt
             digits: Digits { start: at, end: at },
         };
     }
-    if !is_nonzero(s[at]) {
-        return DigitsAt {
-            ok: false,
-            digits: Digits { start: at, end: at },
-        };
-    }
-    let end = scan::run::digits(s, at + 1);
-    DigitsAt {
-        ok: true,
-        digits: Digits { start: at, end },
-    }
+    led_by(s, at, is_nonzero(s[at]))
 }
 
 // One or more digits.
@@ -55,17 +63,7 @@ pub fn some_digits(s: &[u8], at: usize) -> DigitsAt
             digits: Digits { start: at, end: at },
         };
     }
-    if !is_digit(s[at]) {
-        return DigitsAt {
-            ok: false,
-            digits: Digits { start: at, end: at },
-        };
-    }
-    let end = scan::run::digits(s, at + 1);
-    DigitsAt {
-        ok: true,
-        digits: Digits { start: at, end },
-    }
+    led_by(s, at, is_digit(s[at]))
 }
 
 // Digits under a sign.

@@ -17,8 +17,8 @@ ghost use mathlib.Core.Bool.{_||_};
 ghost use lib.ListN.{length, drop};
 ghost use Rattle.label.specs.Bytes.{digit};
 ghost use Rattle.label.specs.Parse.{sign, bracketed, power};
-ghost use Rattle.label.specs.Ranges.{Inside};
-ghost use Rattle.tokens.specs.Answers.{begins, ReadsPower, ClosesDecimal, ClosesFraction, ReadsOn, Powers, StarredFrom, ReadsExponent};
+ghost use Rattle.label.specs.Ranges.{Inside, PowerInside};
+ghost use Rattle.tokens.specs.Answers.{begins, ReadsPower, Closes, ReadsOn, Powers, StarredFrom, ReadsExponent};
 
 // A power from a place on, up to `next`, or none where `ok` is false.
 pub struct PowerAt {
@@ -38,55 +38,19 @@ pub fn closes(s: &[u8], at: usize) -> bool
     s[at] == 41
 }
 
-// The digits behind a point, and the closing bracket.
-pub fn closed_decimal(s: &[u8], n: SignedDigits, d: DigitsAt) -> PowerAt
-    requires { ⌜ Inside (now s) (n .digits) ⌝ }
+// The power that digits end, where the closing bracket stands behind them.
+pub fn closed(s: &[u8], d: DigitsAt, power: WrittenPower) -> PowerAt
     requires { ⌜ Inside (now s) (d .digits) ⌝ }
-    ensures { λ o. ⌜ ClosesDecimal (now (s .entry)) n d o ⌝ }
+    requires { ⌜ PowerInside (now s) power ⌝ }
+    ensures { λ o. ⌜ Closes (now (s .entry)) d power o ⌝ }
 {
     let digits = d.digits;
     let end = digits.end;
-    if !d.ok {
-        return PowerAt {
-            ok: false,
-            next: end,
-            power: WrittenPower::Unwritten,
-        };
-    }
-    if closes(s, end) {
+    if both(d.ok, closes(s, end)) {
         return PowerAt {
             ok: true,
             next: end + 1,
-            power: WrittenPower::Decimal(n, digits),
-        };
-    }
-    PowerAt {
-        ok: false,
-        next: end,
-        power: WrittenPower::Unwritten,
-    }
-}
-
-// The digits behind a slash, and the closing bracket.
-pub fn closed_fraction(s: &[u8], n: SignedDigits, d: DigitsAt) -> PowerAt
-    requires { ⌜ Inside (now s) (n .digits) ⌝ }
-    requires { ⌜ Inside (now s) (d .digits) ⌝ }
-    ensures { λ o. ⌜ ClosesFraction (now (s .entry)) n d o ⌝ }
-{
-    let digits = d.digits;
-    let end = digits.end;
-    if !d.ok {
-        return PowerAt {
-            ok: false,
-            next: end,
-            power: WrittenPower::Unwritten,
-        };
-    }
-    if closes(s, end) {
-        return PowerAt {
-            ok: true,
-            next: end + 1,
-            power: WrittenPower::Fraction(n, digits),
+            power,
         };
     }
     PowerAt {
@@ -118,10 +82,14 @@ pub fn bracketed_on(s: &[u8], n: SignedDigits, at: usize) -> PowerAt
         };
     }
     if c == 46 {
-        return closed_decimal(s, n, some_digits(s, at + 1));
+        let d = some_digits(s, at + 1);
+        let digits = d.digits;
+        return closed(s, d, WrittenPower::Decimal(n, digits));
     }
     if c == 47 {
-        return closed_fraction(s, n, unsigned(s, at + 1));
+        let d = unsigned(s, at + 1);
+        let digits = d.digits;
+        return closed(s, d, WrittenPower::Fraction(n, digits));
     }
     PowerAt {
         ok: false,

@@ -3,9 +3,6 @@ use Rattle.tokens.proofs.FactorSteps.{closed-tens₁, closed-tens₂, c
 use borrow.Author.Needs.{needs}
 use Rattle.tokens.proofs.factor.closed_tens.Statement.{statement}
 use Rattle.tokens.proofs.factor.closed_tens.Tie as tie
-use Rattle.tokens.proofs.factor.closed_tens.Reads as reads
-use Rattle.tokens.proofs.factor.closed_tens.Lts as lts
-use Rattle.tokens.proofs.power.closes.Reads as closes-reads
 
 returns : tie.Need-returns
 returns c = search (closed-tens₁, arith)

@@ -3,12 +3,6 @@ use Rattle.tokens.proofs.FactorSteps.{factor₁, factor₂}
 use borrow.Author.Needs.{needs}
 use Rattle.tokens.proofs.factor.factor.Statement.{statement}
 use Rattle.tokens.proofs.factor.factor.Tie as tie
-use Rattle.tokens.proofs.factor.factor.Reads as reads
-use Rattle.tokens.proofs.factor.factor.Lts as lts
-use Rattle.scan.proofs.run.digits.Reads as digits-reads
-use Rattle.tokens.proofs.factor.is_ten.Reads as is-ten-reads
-use Rattle.tokens.proofs.factor.plain_factor.Reads as plain-factor-reads
-use Rattle.tokens.proofs.factor.ten_factor.Reads as ten-factor-reads
 
 digits-requires : tie.Need-digits-requires
 digits-requires c κs = search needs

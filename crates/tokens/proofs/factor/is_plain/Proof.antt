@@ -3,9 +3,6 @@ use Rattle.tokens.proofs.FactorSteps.{plain-empty, plain-other, plain-r
 use borrow.Author.Needs.{needs}
 use Rattle.tokens.proofs.factor.is_plain.Statement.{statement}
 use Rattle.tokens.proofs.factor.is_plain.Tie as tie
-use Rattle.tokens.proofs.factor.is_plain.Reads as reads
-use Rattle.tokens.proofs.factor.is_plain.Lts as lts
-use Rattle.scan.proofs.run.zeros.Reads as zeros-reads
 
 returns : tie.Need-returns
 returns c = search (plain-empty, arith)

@@ -4,9 +4,6 @@ use Rattle.tokens.proofs.FactorSteps.{is-ten₁, is-ten₂}
 use borrow.Author.Needs.{needs}
 use Rattle.tokens.proofs.factor.is_ten.Statement.{statement}
 use Rattle.tokens.proofs.factor.is_ten.Tie as tie
-use Rattle.tokens.proofs.factor.is_ten.Reads as reads
-use Rattle.tokens.proofs.factor.is_ten.Lts as lts
-use Rattle.scan.proofs.class.both.Reads as both-reads
 
 sub-if1 : tie.Need-sub-if1
 sub-if1 c = search needs

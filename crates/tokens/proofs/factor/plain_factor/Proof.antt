@@ -3,10 +3,6 @@ use Rattle.tokens.proofs.FactorSteps.{plain₁, plain₂, zeros-room}
 use borrow.Author.Needs.{needs}
 use Rattle.tokens.proofs.factor.plain_factor.Statement.{statement}
 use Rattle.tokens.proofs.factor.plain_factor.Tie as tie
-use Rattle.tokens.proofs.factor.plain_factor.Reads as reads
-use Rattle.tokens.proofs.factor.plain_factor.Lts as lts
-use Rattle.scan.proofs.class.both.Reads as both-reads
-use Rattle.tokens.proofs.factor.is_plain.Reads as is-plain-reads
 
 is-plain-requires : tie.Need-is-plain-requires
 is-plain-requires c κs = search needs

@@ -3,9 +3,6 @@ use Rattle.tokens.proofs.FactorSteps.{starred-factor₁, starred-factor
 use borrow.Author.Needs.{needs}
 use Rattle.tokens.proofs.factor.starred_factor.Statement.{statement}
 use Rattle.tokens.proofs.factor.starred_factor.Tie as tie
-use Rattle.tokens.proofs.factor.starred_factor.Reads as reads
-use Rattle.tokens.proofs.factor.starred_factor.Lts as lts
-use Rattle.tokens.proofs.factor.wrapped.Reads as wrapped-reads
 
 returns : tie.Need-returns
 returns c = search (starred-factor₁, arith)

@@ -3,15 +3,6 @@ use Rattle.tokens.proofs.FactorSteps.{ten₁, ten₂, ten₃, ten₄, t
 use borrow.Author.Needs.{needs}
 use Rattle.tokens.proofs.factor.ten_factor.Statement.{statement}
 use Rattle.tokens.proofs.factor.ten_factor.Tie as tie
-use Rattle.tokens.proofs.factor.ten_factor.Reads as reads
-use Rattle.tokens.proofs.factor.ten_factor.Lts as lts
-use Rattle.scan.proofs.class.both.Reads as both-reads
-use Rattle.scan.proofs.class.is_sign.Reads as is-sign-reads
-use Rattle.tokens.proofs.factor.plain_factor.Reads as plain-factor-reads
-use Rattle.tokens.proofs.factor.starred_factor.Reads as starred-factor-reads
-use Rattle.tokens.proofs.factor.tens.Reads as tens-reads
-use Rattle.tokens.proofs.factor.wrapped.Reads as wrapped-reads
-use Rattle.tokens.proofs.number.integer.Reads as integer-reads
 
 plain-factor-requires : tie.Need-plain-factor-requires
 plain-factor-requires c κs = search needs

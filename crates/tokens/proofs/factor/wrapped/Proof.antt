@@ -3,12 +3,6 @@ use Rattle.tokens.proofs.FactorSteps.{wrapped₁, wrapped₂, wrapped�
 use borrow.Author.Needs.{needs}
 use Rattle.tokens.proofs.factor.wrapped.Statement.{statement}
 use Rattle.tokens.proofs.factor.wrapped.Tie as tie
-use Rattle.tokens.proofs.factor.wrapped.Reads as reads
-use Rattle.tokens.proofs.factor.wrapped.Lts as lts
-use Rattle.scan.proofs.class.both.Reads as both-reads
-use Rattle.tokens.proofs.factor.closed_tens.Reads as closed-tens-reads
-use Rattle.tokens.proofs.factor.tens.Reads as tens-reads
-use Rattle.tokens.proofs.number.integer.Reads as integer-reads
 
 returns : tie.Need-returns
 returns c = search (wrapped₁, arith)

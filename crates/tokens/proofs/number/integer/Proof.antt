@@ -3,10 +3,6 @@ use Rattle.tokens.proofs.Numbers.{integer₁, integer₂, integer₃, i
 use borrow.Author.Needs.{needs}
 use Rattle.tokens.proofs.number.integer.Statement.{statement}
 use Rattle.tokens.proofs.number.integer.Tie as tie
-use Rattle.tokens.proofs.number.integer.Reads as reads
-use Rattle.tokens.proofs.number.integer.Lts as lts
-use Rattle.tokens.proofs.number.under_sign.Reads as under-sign-reads
-use Rattle.tokens.proofs.number.unsigned.Reads as unsigned-reads
 
 returns : tie.Need-returns
 returns c = integer₁ (omega arith) (c .if1 .taken)

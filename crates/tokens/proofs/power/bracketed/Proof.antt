@@ -3,10 +3,6 @@ use Rattle.tokens.proofs.PowerSteps.{bracketed₁, bracketed₂}
 use borrow.Author.Needs.{needs}
 use Rattle.tokens.proofs.power.bracketed.Statement.{statement}
 use Rattle.tokens.proofs.power.bracketed.Tie as tie
-use Rattle.tokens.proofs.power.bracketed.Reads as reads
-use Rattle.tokens.proofs.power.bracketed.Lts as lts
-use Rattle.tokens.proofs.number.integer.Reads as integer-reads
-use Rattle.tokens.proofs.power.bracketed_on.Reads as bracketed-on-reads
 
 integer-requires : tie.Need-integer-requires
 integer-requires c κs = search needs

@@ -1,14 +1,9 @@
+-- `tokens::power::bracketed_on` meets its contract: each way is one of the laws below.
 use native.Mathlib.Omega.{arith}
 use Rattle.tokens.proofs.PowerSteps.{bracketed-on₁, bracketed-on₂, bracketed-on₃, bracketed-on₄, bracketed-on₅}
 use borrow.Author.Needs.{needs}
 use Rattle.tokens.proofs.power.bracketed_on.Statement.{statement}
 use Rattle.tokens.proofs.power.bracketed_on.Tie as tie
-use Rattle.tokens.proofs.power.bracketed_on.Reads as reads
-use Rattle.tokens.proofs.power.bracketed_on.Lts as lts
-use Rattle.tokens.proofs.number.some_digits.Reads as some-digits-reads
-use Rattle.tokens.proofs.number.unsigned.Reads as unsigned-reads
-use Rattle.tokens.proofs.power.closed_decimal.Reads as closed-decimal-reads
-use Rattle.tokens.proofs.power.closed_fraction.Reads as closed-fraction-reads
 
 returns : tie.Need-returns
 returns c = search (bracketed-on₁, arith)
@@ -16,8 +11,8 @@ returns c = search (bracketed-on₁, arith)
 shared-slice-read-c : tie.Need-shared-slice-read-c
 shared-slice-read-c c = search needs
 
-add-t10 : tie.Need-add-t10
-add-t10 c = search needs
+add-t14 : tie.Need-add-t14
+add-t14 c = search needs
 
 returns-2 : tie.Need-returns-2
 returns-2 c = search (bracketed-on₂, arith)
@@ -28,8 +23,8 @@ add-some-digits c = search needs
 some-digits-requires : tie.Need-some-digits-requires
 some-digits-requires c κs = search needs
 
-closed-decimal-requires : tie.Need-closed-decimal-requires
-closed-decimal-requires c κs = search needs
+closed-requires : tie.Need-closed-requires
+closed-requires c κs = search needs
 
 returns-3 : tie.Need-returns-3
 returns-3 c = search (bracketed-on₃, arith)
@@ -40,8 +35,8 @@ add-unsigned c = search needs
 unsigned-requires : tie.Need-unsigned-requires
 unsigned-requires c κs = search needs
 
-closed-fraction-requires : tie.Need-closed-fraction-requires
-closed-fraction-requires c κs = search needs
+closed-requires-2 : tie.Need-closed-requires-2
+closed-requires-2 c κs = search needs
 
 returns-4 : tie.Need-returns-4
 returns-4 c = search (bracketed-on₄, arith)
@@ -55,14 +50,14 @@ bracketed-on-spec =
     (tie.spec
     returns
     shared-slice-read-c
-    add-t10
+    add-t14
     returns-2
     add-some-digits
     some-digits-requires
-    closed-decimal-requires
+    closed-requires
     returns-3
     add-unsigned
     unsigned-requires
-    closed-fraction-requires
+    closed-requires-2
     returns-4
     returns-5)

@@ -4,8 +4,6 @@ use Rattle.tokens.proofs.PowerSteps.{begins-end, begins-byte}
 use borrow.Author.Needs.{needs}
 use Rattle.tokens.proofs.power.closes.Statement.{statement}
 use Rattle.tokens.proofs.power.closes.Tie as tie
-use Rattle.tokens.proofs.power.closes.Reads as reads
-use Rattle.tokens.proofs.power.closes.Lts as lts
 
 returns : tie.Need-returns
 returns c = sym (begins-end _ _ 41 (c .if1 .taken))

@@ -3,15 +3,6 @@ use Rattle.tokens.proofs.PowerSteps.{exponent₁, exponent₂, exponent
 use borrow.Author.Needs.{needs}
 use Rattle.tokens.proofs.power.exponent.Statement.{statement}
 use Rattle.tokens.proofs.power.exponent.Tie as tie
-use Rattle.tokens.proofs.power.exponent.Reads as reads
-use Rattle.tokens.proofs.power.exponent.Lts as lts
-use Rattle.scan.proofs.class.both.Reads as both-reads
-use Rattle.tokens.proofs.number.integer.Reads as integer-reads
-use Rattle.tokens.proofs.power.bracketed.Reads as bracketed-reads
-use Rattle.tokens.proofs.power.power.Reads as power-reads
-use Rattle.tokens.proofs.power.starred.Reads as starred-reads
-use Rattle.tokens.proofs.power.starts_integer.Reads as starts-integer-reads
-use Rattle.tokens.proofs.power.whole.Reads as whole-reads
 
 returns : tie.Need-returns
 returns c = search (exponent₁, arith)

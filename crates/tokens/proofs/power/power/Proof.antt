@@ -3,11 +3,6 @@ use Rattle.tokens.proofs.PowerSteps.{power₁, power₂, power₃}
 use borrow.Author.Needs.{needs}
 use Rattle.tokens.proofs.power.power.Statement.{statement}
 use Rattle.tokens.proofs.power.power.Tie as tie
-use Rattle.tokens.proofs.power.power.Reads as reads
-use Rattle.tokens.proofs.power.power.Lts as lts
-use Rattle.tokens.proofs.number.integer.Reads as integer-reads
-use Rattle.tokens.proofs.power.bracketed.Reads as bracketed-reads
-use Rattle.tokens.proofs.power.whole.Reads as whole-reads
 
 returns : tie.Need-returns
 returns c = search (power₁, arith)

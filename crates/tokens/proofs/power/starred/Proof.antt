@@ -3,9 +3,6 @@ use Rattle.tokens.proofs.PowerSteps.{starred₁, starred₂, starred₃
 use borrow.Author.Needs.{needs}
 use Rattle.tokens.proofs.power.starred.Statement.{statement}
 use Rattle.tokens.proofs.power.starred.Tie as tie
-use Rattle.tokens.proofs.power.starred.Reads as reads
-use Rattle.tokens.proofs.power.starred.Lts as lts
-use Rattle.tokens.proofs.power.power.Reads as power-reads
 
 add-second : tie.Need-add-second
 add-second c = search needs

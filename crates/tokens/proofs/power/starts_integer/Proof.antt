@@ -2,10 +2,6 @@ use mathlib.Core.Path.{sym, _∙_}
 use borrow.Author.Needs.{needs}
 use Rattle.tokens.proofs.power.starts_integer.Statement.{statement}
 use Rattle.tokens.proofs.power.starts_integer.Tie as tie
-use Rattle.tokens.proofs.power.starts_integer.Reads as reads
-use Rattle.tokens.proofs.power.starts_integer.Lts as lts
-use Rattle.scan.proofs.class.is_digit.Reads as is-digit-reads
-use Rattle.scan.proofs.class.is_sign.Reads as is-sign-reads
 
 is-sign-requires : tie.Need-is-sign-requires
 is-sign-requires c κs = search needs

@@ -1,0 +1,43 @@
+#!/bin/sh
+# What README.md prints, against what its commands print.
+set -eu
+out=build/tests/readme
+mkdir -p "$out"
+fail() { echo "README.md: $1"; exit 1; }
+
+# the first answer, of make run
+awk '/^    /{ print substr($0, 5) } /^$/{ if (seen) print "" } /^    kg\/m.s in FITS/{ seen = 1 } /^Above, in CDS/{ exit }' README.md >"$out/printed"
+for notation in fits ogip cds vou; do
+    build/thalinguze read "$notation" kg/m.s || test $? = 1
+    echo
+done >"$out/said"
+diff "$out/printed" "$out/said" || fail 'make run says something else'
+
+# the commands for an editor
+grep "^    build/thalinguze " README.md | sh -e >"$out/editor"
+[ -s "$out/editor" ] || fail 'it has no commands for an editor'
+
+# a command and, below it, what it prints
+shows() { # THE COMMAND'S FIRST WORDS, THE LINES BELOW IT
+    sed -n "/^    $1/{s/^    //p;q}" README.md >"$out/command"
+    sh -e "$out/command" >"$out/said"
+    [ -s "$out/said" ] || fail "nothing is printed by $1"
+    while read -r line; do grep -qxF "    $line" README.md || fail "it does not print: $line"; done <"$out/said"
+}
+shows "printf '3 "
+sed -n '/^    gcc -I include/s/^    //p' README.md | sh -e
+shows 'build\/example$'
+
+# the labels with the seconds above and below the line
+rows=0
+while IFS='|' read -r _ notation above below _; do
+    name=$(echo "$notation" | tr -d ' ' | sed 's/VOUnits/vou/' | tr 'A-Z' 'a-z')
+    label() { echo "$1" | sed 's/^ *`//; s/` *$//'; }
+    build/thalinguze read "$name" "$(label "$above")" | grep -q ': second, above the line$' || fail "above in $notation"
+    build/thalinguze read "$name" "$(label "$below")" | grep -q ': second to the power -1, below the line$' || fail "below in $notation"
+    rows=$((rows + 1))
+done <<EOF
+$(sed -n '/^| Notation | Seconds above/,/^$/p' README.md | sed '1,2d;/^$/d')
+EOF
+[ "$rows" = 4 ] || fail "it has $rows rows of labels"
+echo 'README.md prints what its commands print'

@@ -205,6 +205,13 @@ module _ {s : List ℕ} {at : ℕ} where
 
 -- EXPONENTS
 
+-- what a test says, from what it is and how it went
+pub tested : {t x v : Bool} → t ≡ x → t ≡ v → x ≡ v
+tested e q = sym e ∙ q
+
+pub tested-by : (b : Bool) {a x t v : Bool} → x ≡ a → t ≡ (x && b) → t ≡ v → (a && b) ≡ v
+tested-by b h e q = rw (← h) (sym e ∙ q)
+
 module _ (r : Rules) (s : List ℕ) (at : ℕ) where
   exponent-end : length s ≤ at → exponent r (drop at s) ≡ found unwritten (drop at s)
   unfolding exponent

@@ -1,4 +1,5 @@
 use native.Mathlib.Omega.{arith}
+use Rattle.tokens.proofs.PowerSteps.{tested, tested-by}
 use Rattle.tokens.proofs.FactorSteps.{ten₁, ten₂, ten₃, ten₄, ten₅}
 use borrow.Author.Needs.{needs}
 use Rattle.tokens.proofs.factor.ten_factor.Statement.{statement}
@@ -26,7 +27,7 @@ tens-requires : tie.Need-tens-requires
 tens-requires c κs = search needs
 
 returns-2 : tie.Need-returns-2
-returns-2 c = ten₂ (omega arith) (cc) (c .before .integer .ensures) (c .tens .ensures)
+returns-2 c = ten₂ (omega arith) (tested-by (c .before .before .before .before .before .before .before .before .args .r .signed) (c .before .before .before .before .is-sign .ensures) (c .before .before .before .both .ensures) (c .before .before .if2 .taken)) (c .before .integer .ensures) (c .tens .ensures)
 
 both-requires-2 : tie.Need-both-requires-2
 both-requires-2 c κs = search needs
@@ -38,7 +39,7 @@ wrapped-requires : tie.Need-wrapped-requires
 wrapped-requires c κs = search needs
 
 returns-3 : tie.Need-returns-3
-returns-3 c = ten₃ (omega arith) (cc) (cc) (search)
+returns-3 c = ten₃ (omega arith) (tested-by (c .before .before .before .before .before .before .before .before .before .args .r .signed) (c .before .before .before .before .before .is-sign .ensures) (c .before .before .before .before .both .ensures) (c .before .before .before .if2 .left)) (tested (c .before .before .both2 .ensures) (c .before .if3 .taken)) (c .wrapped .ensures)
 
 add-starred-factor : tie.Need-add-starred-factor
 add-starred-factor c = search needs
@@ -47,13 +48,13 @@ starred-factor-requires : tie.Need-starred-factor-requires
 starred-factor-requires c κs = search needs
 
 returns-4 : tie.Need-returns-4
-returns-4 c = ten₄ (omega arith) (cc) (cc) (search) (search)
+returns-4 c = ten₄ (omega arith) (tested-by (c .before .before .before .before .before .before .before .before .before .before .args .r .signed) (c .before .before .before .before .before .before .is-sign .ensures) (c .before .before .before .before .before .both .ensures) (c .before .before .before .before .if2 .left)) (tested (c .before .before .before .both2 .ensures) (c .before .before .if3 .left)) (c .before .if4 .taken) (c .starred-factor .ensures)
 
 plain-factor-requires-2 : tie.Need-plain-factor-requires-2
 plain-factor-requires-2 c κs = search needs
 
 returns-5 : tie.Need-returns-5
-returns-5 c = ten₅ (omega arith) (cc) (cc) (search) (search)
+returns-5 c = ten₅ (omega arith) (tested-by (c .before .before .before .before .before .before .before .before .before .before .args .r .signed) (c .before .before .before .before .before .before .is-sign .ensures) (c .before .before .before .before .before .both .ensures) (c .before .before .before .before .if2 .left)) (tested (c .before .before .before .both2 .ensures) (c .before .before .if3 .left)) (c .before .if4 .left) (c .plain-factor2 .ensures)
 
 pub ten-factor-spec : {M : Type 1} → statement M
 ten-factor-spec =

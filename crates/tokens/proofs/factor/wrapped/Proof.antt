@@ -1,4 +1,5 @@
 use native.Mathlib.Omega.{arith}
+use Rattle.tokens.proofs.PowerSteps.{tested}
 use Rattle.tokens.proofs.FactorSteps.{wrapped₁, wrapped₂, wrapped₃}
 use borrow.Author.Needs.{needs}
 use Rattle.tokens.proofs.factor.wrapped.Statement.{statement}
@@ -23,7 +24,7 @@ closed-tens-requires : tie.Need-closed-tens-requires
 closed-tens-requires c κs = search needs
 
 returns-2 : tie.Need-returns-2
-returns-2 c = wrapped₂ (omega arith) (cc) (c .before .integer .ensures) (c .closed-tens .ensures)
+returns-2 c = wrapped₂ (omega arith) (tested (c .before .before .before .both .ensures) (c .before .before .if2 .taken)) (c .before .integer .ensures) (c .closed-tens .ensures)
 
 integer-requires-2 : tie.Need-integer-requires-2
 integer-requires-2 c κs = search needs
@@ -32,7 +33,7 @@ tens-requires : tie.Need-tens-requires
 tens-requires c κs = search needs
 
 returns-3 : tie.Need-returns-3
-returns-3 c = wrapped₃ (omega arith) (cc) (c .before .integer2 .ensures) (c .tens .ensures)
+returns-3 c = wrapped₃ (omega arith) (tested (c .before .before .before .both .ensures) (c .before .before .if2 .left)) (c .before .integer2 .ensures) (c .tens .ensures)
 
 pub wrapped-spec : {M : Type 1} → statement M
 wrapped-spec =

@@ -1,5 +1,5 @@
 use native.Mathlib.Omega.{arith}
-use Rattle.tokens.proofs.PowerSteps.{exponent₁, exponent₂, exponent₃, exponent₄, exponent₅, exponent₆}
+use Rattle.tokens.proofs.PowerSteps.{tested, tested-by, exponent₁, exponent₂, exponent₃, exponent₄, exponent₅, exponent₆}
 use borrow.Author.Needs.{needs}
 use Rattle.tokens.proofs.power.exponent.Statement.{statement}
 use Rattle.tokens.proofs.power.exponent.Tie as tie
@@ -23,7 +23,7 @@ whole-requires : tie.Need-whole-requires
 whole-requires c κs = search needs
 
 returns-2 : tie.Need-returns-2
-returns-2 c = exponent₂ (omega arith) (cc) (c .before .integer .ensures) (c .whole .ensures)
+returns-2 c = exponent₂ (omega arith) (tested-by (c .before .before .before .before .before .before .before .before .args .r .direct) (c .before .before .before .before .starts-integer .ensures) (c .before .before .before .both .ensures) (c .before .before .if2 .taken)) (c .before .integer .ensures) (c .whole .ensures)
 
 both-requires-2 : tie.Need-both-requires-2
 both-requires-2 c κs = search needs
@@ -35,7 +35,7 @@ bracketed-requires : tie.Need-bracketed-requires
 bracketed-requires c κs = search needs
 
 returns-3 : tie.Need-returns-3
-returns-3 c = exponent₃ (omega arith) (cc) (cc) (search)
+returns-3 c = exponent₃ (omega arith) (tested-by (c .before .before .before .before .before .before .before .before .before .args .r .direct) (c .before .before .before .before .before .starts-integer .ensures) (c .before .before .before .before .both .ensures) (c .before .before .before .if2 .left)) (tested (c .before .before .both2 .ensures) (c .before .if3 .taken)) (c .bracketed .ensures)
 
 both-requires-3 : tie.Need-both-requires-3
 both-requires-3 c κs = search needs
@@ -47,7 +47,7 @@ power-requires : tie.Need-power-requires
 power-requires c κs = search needs
 
 returns-4 : tie.Need-returns-4
-returns-4 c = exponent₄ (omega arith) (cc) (cc) (cc) (search)
+returns-4 c = exponent₄ (omega arith) (tested-by (c .before .before .before .before .before .before .before .before .before .before .before .args .r .direct) (c .before .before .before .before .before .before .before .starts-integer .ensures) (c .before .before .before .before .before .before .both .ensures) (c .before .before .before .before .before .if2 .left)) (tested (c .before .before .before .before .both2 .ensures) (c .before .before .before .if3 .left)) (tested (c .before .before .both3 .ensures) (c .before .if4 .taken)) (c .power .ensures)
 
 both-requires-4 : tie.Need-both-requires-4
 both-requires-4 c κs = search needs
@@ -56,10 +56,10 @@ starred-requires : tie.Need-starred-requires
 starred-requires c κs = search needs
 
 returns-5 : tie.Need-returns-5
-returns-5 c = exponent₅ (omega arith) (cc) (cc) (cc) (cc) (search)
+returns-5 c = exponent₅ (omega arith) (tested-by (c .before .before .before .before .before .before .before .before .before .before .before .before .before .args .r .direct) (c .before .before .before .before .before .before .before .before .before .starts-integer .ensures) (c .before .before .before .before .before .before .before .before .both .ensures) (c .before .before .before .before .before .before .before .if2 .left)) (tested (c .before .before .before .before .before .before .both2 .ensures) (c .before .before .before .before .before .if3 .left)) (tested (c .before .before .before .before .both3 .ensures) (c .before .before .before .if4 .left)) (tested (c .before .before .both4 .ensures) (c .before .if5 .taken)) (c .starred .ensures)
 
 returns-6 : tie.Need-returns-6
-returns-6 c = exponent₆ (omega arith) (cc) (cc) (cc) (cc)
+returns-6 c = exponent₆ (omega arith) (tested-by (c .before .before .before .before .before .before .before .before .before .before .before .before .args .r .direct) (c .before .before .before .before .before .before .before .before .starts-integer .ensures) (c .before .before .before .before .before .before .before .both .ensures) (c .before .before .before .before .before .before .if2 .left)) (tested (c .before .before .before .before .before .both2 .ensures) (c .before .before .before .before .if3 .left)) (tested (c .before .before .before .both3 .ensures) (c .before .before .if4 .left)) (tested (c .before .both4 .ensures) (c .if5 .left))
 
 pub exponent-spec : {M : Type 1} → statement M
 exponent-spec =

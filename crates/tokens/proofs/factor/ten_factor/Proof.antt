@@ -27,7 +27,11 @@ tens-requires : tie.Need-tens-requires
 tens-requires c κs = search needs
 
 returns-2 : tie.Need-returns-2
-returns-2 c = ten₂ (omega arith) (tested-by (c .before .before .before .before .before .before .before .before .args .r .signed) (c .before .before .before .before .is-sign .ensures) (c .before .before .before .both .ensures) (c .before .before .if2 .taken)) (c .before .integer .ensures) (c .tens .ensures)
+returns-2 c =
+    let then₂ = c .before .before in
+    ten₂ (omega arith)
+    (tested-by (then₂ .before .before .before .before .before .before .args .r .signed) (then₂ .before .before .is-sign .ensures) (then₂ .before .both .ensures) (then₂ .if2 .taken))
+    (c .before .integer .ensures) (c .tens .ensures)
 
 both-requires-2 : tie.Need-both-requires-2
 both-requires-2 c κs = search needs
@@ -39,7 +43,12 @@ wrapped-requires : tie.Need-wrapped-requires
 wrapped-requires c κs = search needs
 
 returns-3 : tie.Need-returns-3
-returns-3 c = ten₃ (omega arith) (tested-by (c .before .before .before .before .before .before .before .before .before .args .r .signed) (c .before .before .before .before .before .is-sign .ensures) (c .before .before .before .before .both .ensures) (c .before .before .before .if2 .left)) (tested (c .before .before .both2 .ensures) (c .before .if3 .taken)) (c .wrapped .ensures)
+returns-3 c =
+    let else₂ = c .before .before .before in
+    ten₃ (omega arith)
+    (tested-by (else₂ .before .before .before .before .before .before .args .r .signed) (else₂ .before .before .is-sign .ensures) (else₂ .before .both .ensures) (else₂ .if2 .left))
+    (tested (c .before .before .both2 .ensures) (c .before .if3 .taken))
+    (c .wrapped .ensures)
 
 add-starred-factor : tie.Need-add-starred-factor
 add-starred-factor c = search needs
@@ -48,13 +57,25 @@ starred-factor-requires : tie.Need-starred-factor-requires
 starred-factor-requires c κs = search needs
 
 returns-4 : tie.Need-returns-4
-returns-4 c = ten₄ (omega arith) (tested-by (c .before .before .before .before .before .before .before .before .before .before .args .r .signed) (c .before .before .before .before .before .before .is-sign .ensures) (c .before .before .before .before .before .both .ensures) (c .before .before .before .before .if2 .left)) (tested (c .before .before .before .both2 .ensures) (c .before .before .if3 .left)) (c .before .if4 .taken) (c .starred-factor .ensures)
+returns-4 c =
+    let else₃ = c .before .before in
+    let else₂ = else₃ .before .before in
+    ten₄ (omega arith)
+    (tested-by (else₂ .before .before .before .before .before .before .args .r .signed) (else₂ .before .before .is-sign .ensures) (else₂ .before .both .ensures) (else₂ .if2 .left))
+    (tested (else₃ .before .both2 .ensures) (else₃ .if3 .left))
+    (c .before .if4 .taken) (c .starred-factor .ensures)
 
 plain-factor-requires-2 : tie.Need-plain-factor-requires-2
 plain-factor-requires-2 c κs = search needs
 
 returns-5 : tie.Need-returns-5
-returns-5 c = ten₅ (omega arith) (tested-by (c .before .before .before .before .before .before .before .before .before .before .args .r .signed) (c .before .before .before .before .before .before .is-sign .ensures) (c .before .before .before .before .before .both .ensures) (c .before .before .before .before .if2 .left)) (tested (c .before .before .before .both2 .ensures) (c .before .before .if3 .left)) (c .before .if4 .left) (c .plain-factor2 .ensures)
+returns-5 c =
+    let else₃ = c .before .before in
+    let else₂ = else₃ .before .before in
+    ten₅ (omega arith)
+    (tested-by (else₂ .before .before .before .before .before .before .args .r .signed) (else₂ .before .before .is-sign .ensures) (else₂ .before .both .ensures) (else₂ .if2 .left))
+    (tested (else₃ .before .both2 .ensures) (else₃ .if3 .left))
+    (c .before .if4 .left) (c .plain-factor2 .ensures)
 
 pub ten-factor-spec : {M : Type 1} → statement M
 ten-factor-spec =

@@ -23,7 +23,11 @@ whole-requires : tie.Need-whole-requires
 whole-requires c κs = search needs
 
 returns-2 : tie.Need-returns-2
-returns-2 c = exponent₂ (omega arith) (tested-by (c .before .before .before .before .before .before .before .before .args .r .direct) (c .before .before .before .before .starts-integer .ensures) (c .before .before .before .both .ensures) (c .before .before .if2 .taken)) (c .before .integer .ensures) (c .whole .ensures)
+returns-2 c =
+    let then₂ = c .before .before in
+    exponent₂ (omega arith)
+    (tested-by (then₂ .before .before .before .before .before .before .args .r .direct) (then₂ .before .before .starts-integer .ensures) (then₂ .before .both .ensures) (then₂ .if2 .taken))
+    (c .before .integer .ensures) (c .whole .ensures)
 
 both-requires-2 : tie.Need-both-requires-2
 both-requires-2 c κs = search needs
@@ -35,7 +39,12 @@ bracketed-requires : tie.Need-bracketed-requires
 bracketed-requires c κs = search needs
 
 returns-3 : tie.Need-returns-3
-returns-3 c = exponent₃ (omega arith) (tested-by (c .before .before .before .before .before .before .before .before .before .args .r .direct) (c .before .before .before .before .before .starts-integer .ensures) (c .before .before .before .before .both .ensures) (c .before .before .before .if2 .left)) (tested (c .before .before .both2 .ensures) (c .before .if3 .taken)) (c .bracketed .ensures)
+returns-3 c =
+    let else₂ = c .before .before .before in
+    exponent₃ (omega arith)
+    (tested-by (else₂ .before .before .before .before .before .before .args .r .direct) (else₂ .before .before .starts-integer .ensures) (else₂ .before .both .ensures) (else₂ .if2 .left))
+    (tested (c .before .before .both2 .ensures) (c .before .if3 .taken))
+    (c .bracketed .ensures)
 
 both-requires-3 : tie.Need-both-requires-3
 both-requires-3 c κs = search needs
@@ -47,7 +56,14 @@ power-requires : tie.Need-power-requires
 power-requires c κs = search needs
 
 returns-4 : tie.Need-returns-4
-returns-4 c = exponent₄ (omega arith) (tested-by (c .before .before .before .before .before .before .before .before .before .before .before .args .r .direct) (c .before .before .before .before .before .before .before .starts-integer .ensures) (c .before .before .before .before .before .before .both .ensures) (c .before .before .before .before .before .if2 .left)) (tested (c .before .before .before .before .both2 .ensures) (c .before .before .before .if3 .left)) (tested (c .before .before .both3 .ensures) (c .before .if4 .taken)) (c .power .ensures)
+returns-4 c =
+    let else₃ = c .before .before .before in
+    let else₂ = else₃ .before .before in
+    exponent₄ (omega arith)
+    (tested-by (else₂ .before .before .before .before .before .before .args .r .direct) (else₂ .before .before .starts-integer .ensures) (else₂ .before .both .ensures) (else₂ .if2 .left))
+    (tested (else₃ .before .both2 .ensures) (else₃ .if3 .left))
+    (tested (c .before .before .both3 .ensures) (c .before .if4 .taken))
+    (c .power .ensures)
 
 both-requires-4 : tie.Need-both-requires-4
 both-requires-4 c κs = search needs
@@ -56,10 +72,27 @@ starred-requires : tie.Need-starred-requires
 starred-requires c κs = search needs
 
 returns-5 : tie.Need-returns-5
-returns-5 c = exponent₅ (omega arith) (tested-by (c .before .before .before .before .before .before .before .before .before .before .before .before .before .args .r .direct) (c .before .before .before .before .before .before .before .before .before .starts-integer .ensures) (c .before .before .before .before .before .before .before .before .both .ensures) (c .before .before .before .before .before .before .before .if2 .left)) (tested (c .before .before .before .before .before .before .both2 .ensures) (c .before .before .before .before .before .if3 .left)) (tested (c .before .before .before .before .both3 .ensures) (c .before .before .before .if4 .left)) (tested (c .before .before .both4 .ensures) (c .before .if5 .taken)) (c .starred .ensures)
+returns-5 c =
+    let else₄ = c .before .before .before in
+    let else₃ = else₄ .before .before in
+    let else₂ = else₃ .before .before in
+    exponent₅ (omega arith)
+    (tested-by (else₂ .before .before .before .before .before .before .args .r .direct) (else₂ .before .before .starts-integer .ensures) (else₂ .before .both .ensures) (else₂ .if2 .left))
+    (tested (else₃ .before .both2 .ensures) (else₃ .if3 .left))
+    (tested (else₄ .before .both3 .ensures) (else₄ .if4 .left))
+    (tested (c .before .before .both4 .ensures) (c .before .if5 .taken))
+    (c .starred .ensures)
 
 returns-6 : tie.Need-returns-6
-returns-6 c = exponent₆ (omega arith) (tested-by (c .before .before .before .before .before .before .before .before .before .before .before .before .args .r .direct) (c .before .before .before .before .before .before .before .before .starts-integer .ensures) (c .before .before .before .before .before .before .before .both .ensures) (c .before .before .before .before .before .before .if2 .left)) (tested (c .before .before .before .before .before .both2 .ensures) (c .before .before .before .before .if3 .left)) (tested (c .before .before .before .both3 .ensures) (c .before .before .if4 .left)) (tested (c .before .both4 .ensures) (c .if5 .left))
+returns-6 c =
+    let else₄ = c .before .before in
+    let else₃ = else₄ .before .before in
+    let else₂ = else₃ .before .before in
+    exponent₆ (omega arith)
+    (tested-by (else₂ .before .before .before .before .before .before .args .r .direct) (else₂ .before .before .starts-integer .ensures) (else₂ .before .both .ensures) (else₂ .if2 .left))
+    (tested (else₃ .before .both2 .ensures) (else₃ .if3 .left))
+    (tested (else₄ .before .both3 .ensures) (else₄ .if4 .left))
+    (tested (c .before .both4 .ensures) (c .if5 .left))
 
 pub exponent-spec : {M : Type 1} → statement M
 exponent-spec =

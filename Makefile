@@ -1,14 +1,16 @@
 # make: the library and the command, in build/. make run: what kg/m.s means in each notation; NOTATION=cds LABEL='km/h' for another.
-# make test: every program of tests/. make speed: how long reading takes. make clean: removes build/.
+# make test: every program of tests/. make compare COUNT=100000: random labels against the second reading of tests/independent.py.
+# make speed: how long reading takes. make clean: removes build/.
 NOTATION = fits ogip cds vou
 export LABEL = kg/m.s
+COUNT = 100000
 CC = gcc
 CFLAGS = -std=c11 -O2 -Wall -Wextra -Werror
 SANITIZERS = -g -fsanitize=address,undefined -fno-sanitize-recover=all
 LIBRARY = build/libthalinguze.a
 HEADERS = include/thalinguze.h $(wildcard c/*.h)
 PARTS = $(patsubst c/%.c,build/%.o,$(wildcard c/*.c))
-TESTS = $(addprefix build/tests/,limits header advice guard guard-plain)
+TESTS = $(addprefix build/tests/,limits header advice guard guard-plain print_labels)
 
 all: $(LIBRARY) build/thalinguze
 
@@ -23,7 +25,11 @@ test: all $(TESTS)
 	@build/tests/advice
 	@tests/read.sh
 	@tests/readme.sh
+	@tests/independent.sh
 	@tests/guard.sh
+
+compare: all build/tests/print_labels
+	@tests/independent.sh $(COUNT)
 
 speed: build/tests/speed
 	@build/tests/speed
@@ -57,4 +63,4 @@ build/tests/guard-plain: tests/guard.c tests/labels.h $(HEADERS) $(LIBRARY)
 	@mkdir -p build/tests
 	$(CC) $(CFLAGS) -g -o $@ $< $(LIBRARY)
 
-.PHONY: all run test speed clean
+.PHONY: all run test compare speed clean

@@ -1,0 +1,16 @@
+#!/bin/sh
+# Reads COUNT random labels with the command and with the second reading of independent.py, which knows nothing of it, and compares.
+set -eu
+count=${1:-5000}
+out=build/tests/independent
+mkdir -p "$out"
+if ! command -v python3 >/dev/null; then
+    echo 'not compared with the second reading: python3 is not installed'
+    exit 0
+fi
+{ cut -d' ' -f1,2 vectors/readings.tsv; build/tests/print_labels "$count"; } >"$out/labels"
+build/thalinguze read --vectors <"$out/labels" >"$out/command"
+python3 tests/independent.py <"$out/labels" >"$out/second"
+cmp "$out/command" "$out/second" || { diff "$out/command" "$out/second" | head -n 10; exit 1; }
+accepted=$(cut -d' ' -f3 "$out/command" | grep -cx 0)
+echo "$(wc -l <"$out/labels") labels are read alike by the command and by the second reading, $accepted of them accepted"

@@ -1,5 +1,5 @@
 #!/usr/bin/env python3
-"""A second reading of labels, from document 01 alone, to compare the library with.
+"""A second reading of labels, from document 01 and the decisions D1 to D12, to compare the library with.
 
 Each notation has a grammar of its own, written as its paragraph is. A recogniser that knows nothing of notations finds every meaning
 that a grammar gives a text: each rule, at each place, gives the set of all (end, meaning), and no longest match is taken anywhere.

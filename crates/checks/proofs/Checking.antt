@@ -7,9 +7,10 @@ use mathlib.Core.List.{List}
 use mathlib.Core.Option.{Option, none, some}
 use lib.ListN.{length}
 use lib.Dec.{leb, eqb}
-use borrow.Author.Tests.{leb-true, leb-false, le-leb, lt-leb, not-true, not-false}
+use borrow.Author.Tests.{eqb-true, eqb-false, leb-true, leb-false, le-leb, lt-leb, not-true, not-false}
 use Rattle.label.specs.declared.Rules.{Rules}
 use Rattle.label.specs.declared.Tens.{Tens}
+use Rattle.label.specs.declared.WrittenFactor.{WrittenFactor}
 use Rattle.label.specs.Bytes.{admitted, all}
 use Rattle.label.specs.Notations.{notation}
 use Rattle.label.specs.Rules.{rules-of}
@@ -24,7 +25,7 @@ use Rattle.label.proofs.Refusals.{units-values, values-length}
 use Rattle.values.specs.declared.factors.MaybeTens.{MaybeTens}
 use Rattle.values.specs.Given.{given}
 use Rattle.descent.specs.declared.whole.LabelRead.{LabelRead}
-use Rattle.descent.specs.Terms.{is-none, Holds}
+use Rattle.descent.specs.Terms.{Lent, count, broken, missing, Holds}
 use Rattle.descent.specs.Labels.{parsed-by, ReadsLabel}
 use Rattle.checks.specs.declared.check.Checked.{Checked}
 use Rattle.checks.specs.Checks.{due, units-in, checked-by, Rejects, ChecksValues, Checks}
@@ -36,14 +37,14 @@ rejects w k us = rw (w .refused, w .number)
 -- VALUES
 
 module _ (s : List ℕ) (k : Tens) where
-  broken-units : (us : Option (List Placed)) → is-none us ≡ true → check-values s (valued-with (some k) us) ≡ refuse 5
+  broken-units : (us : Option (List Placed)) → (missing us ≡ 0 → ⊥) → check-values s (valued-with (some k) us) ≡ refuse 5
   unfolding check-values valued-with
   broken-units none e = refl
-  broken-units (some us) e = absurd (false-true e)
+  broken-units (some us) e = absurd (e refl)
 
-  deep-units : (us : Option (List Placed)) → is-none us ≡ false → most-brackets < deepest s → check-values s (valued-with (some k) us) ≡ refuse 6
+  deep-units : (us : Option (List Placed)) → missing us ≡ 0 → most-brackets < deepest s → check-values s (valued-with (some k) us) ≡ refuse 6
   unfolding check-values valued-with check-counts unless
-  deep-units none e h = absurd (false-true (sym e))
+  deep-units none e h = absurd (omega arith)
   deep-units (some us) e h = rw (lt-leb (deepest s) most-brackets h)
 
   many-units : (us : List Placed) → deepest s ≤ most-brackets → most-terms < length us → check-values s (valued-with (some k) (some us)) ≡ refuse 7
@@ -61,121 +62,117 @@ no-values s us = refl
 as-many : (ps : List Part) (us : List Placed) → valued-units ps ≡ some us → length us ≡ length ps
 as-many ps us e = values-length (units-values ps us e)
 
-there : (us : Option (List Placed)) → is-none us ≡ false → (vs : List Placed) × (us ≡ some vs)
-there none e = absurd (false-true (sym e))
+there : (us : Option (List Placed)) → missing us ≡ 0 → (vs : List Placed) × (us ≡ some vs)
+there none e = absurd (omega arith)
 there (some vs) e = (vs, refl)
 
-module _ (f : MaybeTens) (s : List ℕ) (o : LabelRead) (q : given (f .ok) (f .k) ≡ k-of (factor-in s (o .factor))) where
+module _ (f : MaybeTens) (s : List ℕ) (w : WrittenFactor) (n m : ℕ) (q : given (f .ok) (f .k) ≡ k-of (factor-in s w)) where
   -- the answer with this number
   abbrev with-number : ℕ → Checked
-  with-number i = record { ok = eqb i 0; number = i; k = f .k; terms = o .terms }
+  with-number i = record { ok = eqb i 0; number = i; k = f .k }
 
   -- a refused label keeps its promises about what is accepted
-  refusing : {i : ℕ} → eqb i 0 ≡ false → ((ps : List Part) → Holds s (o .terms) ps → check-values s (valued (factor-in s (o .factor)) ps) ≡ refuse i)
-      → ChecksValues s o (with-number i)
+  refusing : {i : ℕ} → eqb i 0 ≡ false → ((ps : List Part) → n ≡ length ps → m ≡ missing (valued-units ps) → check-values s (valued (factor-in s w) ps) ≡ refuse i)
+      → ChecksValues s w n m (with-number i)
   refusing z e = record {
-    is = λ ps h. rw z (e ps h);
+    is = λ t ps c b h. rw z (e ps (sym c ∙ h .counted) (sym b ∙ h .marks));
     few = λ t. absurd (false-true (sym z ∙ t));
-    same = λ t. absurd (false-true (sym z ∙ t));
   }
 
-  values₁ : f .ok ≡ false → ChecksValues s o (with-number 5)
+  values₁ : f .ok ≡ false → ChecksValues s w n m (with-number 5)
   unfolding valued
-  values₁ t = refusing refl (λ ps h. rw (← q, t) (no-values s (valued-units ps)))
+  values₁ t = refusing refl (λ ps c b. rw (← q, t) (no-values s (valued-units ps)))
 
   module _ (t : f .ok ≡ true) where
-    with-k : (ps : List Part) → valued (factor-in s (o .factor)) ps ≡ valued-with (some (f .k)) (valued-units ps)
+    with-k : (ps : List Part) → valued (factor-in s w) ps ≡ valued-with (some (f .k)) (valued-units ps)
     unfolding valued
     with-k ps = rw (← q, t)
 
-    values₂ : o .terms .broken ≡ true → ChecksValues s o (with-number 5)
-    values₂ b = refusing refl (λ ps h. rw (with-k ps) (broken-units s (f .k) (valued-units ps) (sym (h .broken) ∙ b)))
+    values₂ : (m ≡ 0 → ⊥) → ChecksValues s w n m (with-number 5)
+    values₂ z = refusing refl (λ ps c b. rw (with-k ps) (broken-units s (f .k) (valued-units ps) (λ e. z (b ∙ e))))
 
-    module _ (b : o .terms .broken ≡ false) where
-      values₃ : most-brackets < deepest s → ChecksValues s o (with-number 6)
-      values₃ g = refusing refl (λ ps h. rw (with-k ps) (deep-units s (f .k) (valued-units ps) (sym (h .broken) ∙ b) g))
+    module _ (z : m ≡ 0) where
+      values₃ : most-brackets < deepest s → ChecksValues s w n m (with-number 6)
+      values₃ g = refusing refl (λ ps c b. rw (with-k ps) (deep-units s (f .k) (valued-units ps) (sym b ∙ z) g))
 
       module _ (g : deepest s ≤ most-brackets) where
-        values₄ : 32 < o .terms .count → ChecksValues s o (with-number 7)
-        values₄ l = refusing refl (λ ps h. (
-            let v = there (valued-units ps) (sym (h .broken) ∙ b) in
-            rw (with-k ps, v .1) (many-units s (f .k) (v .0) g (omega (arith, l, h .count, as-many ps (v .0) (v .1))))))
+        values₄ : 32 < n → ChecksValues s w n m (with-number 7)
+        values₄ l = refusing refl (λ ps c b. (
+            let v = there (valued-units ps) (sym b ∙ z) in
+            rw (with-k ps, v .1) (many-units s (f .k) (v .0) g (omega (arith, as-many ps (v .0) (v .1))))))
 
-        values₅ : o .terms .count ≤ 32 → ChecksValues s o (with-number 0)
-        values₅ l = record { is = λ ps h. accepts ps h; few = λ t. l; same = λ t. refl }
+        values₅ : n ≤ 32 → ChecksValues s w n m (with-number 0)
+        values₅ l = record { is = accepts; few = λ _. l }
           where
-            accepts : (ps : List Part) → Holds s (o .terms) ps
-                → check-values s (valued (factor-in s (o .factor)) ps) ≡ accept (record { k = f .k; units = units-in s (o .terms) })
-            accepts ps h =
-                let v = h .kept (omega (arith, l, h .count)) b in
-                rw (with-k ps, v) (fine-units s (f .k) (units-in s (o .terms)) g (omega (arith, l, h .count, as-many ps (units-in s (o .terms)) v)))
+            accepts : (x : Lent) (ps : List Part) → count x ≡ n → broken x ≡ m → Holds s x ps
+                → check-values s (valued (factor-in s w) ps) ≡ accept (record { k = f .k; units = units-in s x })
+            accepts x ps c b h =
+                let v = rw (← h .counted) at (h .kept (omega (arith, h .counted)) (b ∙ z)) in
+                rw (with-k ps, v) (fine-units s (f .k) (units-in s x) g (omega (arith, h .counted, as-many ps (units-in s x) v)))
 
   -- the first number that is due
   abbrev first-due : Bool → Bool → Bool → Bool → ℕ
   first-due ten whole shallow few = due ten 5 (due whole 5 (due shallow 6 (due few 7 0)))
 
-  by-tests : (ten broken shallow few : Bool) → f .ok ≡ ten → o .terms .broken ≡ broken → leb (deepest s) 8 ≡ shallow → leb (o .terms .count) 32 ≡ few
-      → ChecksValues s o (with-number (first-due ten (not broken) shallow few))
-  by-tests false broken shallow few t b d l = values₁ t
-  by-tests true true shallow few t b d l = values₂ t b
-  by-tests true false false few t b d l = values₃ t b (leb-false (deepest s) 8 d)
-  by-tests true false true false t b d l = values₄ t b (leb-true (deepest s) 8 d) (leb-false (o .terms .count) 32 l)
-  by-tests true false true true t b d l = values₅ t b (leb-true (deepest s) 8 d) (leb-true (o .terms .count) 32 l)
+  by-tests : (ten whole shallow few : Bool) → f .ok ≡ ten → eqb m 0 ≡ whole → leb (deepest s) 8 ≡ shallow → leb n 32 ≡ few
+      → ChecksValues s w n m (with-number (first-due ten whole shallow few))
+  by-tests false whole shallow few t b d l = values₁ t
+  by-tests true false shallow few t b d l = values₂ t (eqb-false m 0 b)
+  by-tests true true false few t b d l = values₃ t (eqb-true m 0 b) (leb-false (deepest s) 8 d)
+  by-tests true true true false t b d l = values₄ t (eqb-true m 0 b) (leb-true (deepest s) 8 d) (leb-false n 32 l)
+  by-tests true true true true t b d l = values₅ t (eqb-true m 0 b) (leb-true (deepest s) 8 d) (leb-true n 32 l)
 
-  pub values-checked : {x i₄ i₃ i₂ i₁ : ℕ} → x ≡ deepest s → i₄ ≡ due (leb (o .terms .count) 32) 7 0 → i₃ ≡ due (leb x 8) 6 i₄
-      → i₂ ≡ due (not (o .terms .broken)) 5 i₃ → i₁ ≡ due (f .ok) 5 i₂ → ChecksValues s o (with-number i₁)
-  values-checked e e₄ e₃ e₂ e₁ = rw (e₁, e₂, e₃, e₄, e) (by-tests (f .ok) (o .terms .broken) (leb (deepest s) 8) (leb (o .terms .count) 32) refl refl refl refl)
+  pub values-checked : {x i₄ i₃ i₂ i₁ : ℕ} → x ≡ deepest s → i₄ ≡ due (leb n 32) 7 0 → i₃ ≡ due (leb x 8) 6 i₄
+      → i₂ ≡ due (eqb m 0) 5 i₃ → i₁ ≡ due (f .ok) 5 i₂ → ChecksValues s w n m (with-number i₁)
+  values-checked e e₄ e₃ e₂ e₁ = rw (e₁, e₂, e₃, e₄, e) (by-tests (f .ok) (eqb m 0) (leb (deepest s) 8) (leb n 32) refl refl refl refl)
 
 -- THE WHOLE LABEL
 
 module _ (n : ℕ) (s : List ℕ) where
-  turned-down : {i : ℕ} {r : Checked} → Rejects i r → checked n s ≡ refuse i → Checks n s r
-  turned-down {i} {r} w e = record {
-    is = e ∙ sym (rejects w (r .k) (units-in s (r .terms)));
-    small = λ t. absurd (false-true (sym (w .refused) ∙ t));
-    few = λ t. absurd (false-true (sym (w .refused) ∙ t));
-    room = λ t. absurd (false-true (sym (w .refused) ∙ t));
-    inside = λ t. absurd (false-true (sym (w .refused) ∙ t));
+  turned-down : {i : ℕ} {t : Lent} {r : Checked} → Rejects i r → checked n s ≡ refuse i → Checks n s t r
+  turned-down {i} {t} {r} w e = record {
+    is = e ∙ sym (rejects w (r .k) (units-in s t));
+    small = λ k. absurd (false-true (sym (w .refused) ∙ k));
+    short = λ k. absurd (false-true (sym (w .refused) ∙ k));
+    few = λ k. absurd (false-true (sym (w .refused) ∙ k));
+    inside = λ k. absurd (false-true (sym (w .refused) ∙ k));
   }
 
-  pub check₁ : {b : Bool} {r : Checked} → b ≡ notation n → not b ≡ true → Rejects 1 r → Checks n s r
+  pub check₁ : {b : Bool} {z : Lent} {r : Checked} → b ≡ notation n → not b ≡ true → Rejects 1 r → Checks n s z r
   unfolding checked unless
   check₁ {b} e t w = turned-down w (rw (← e, not-true b t))
 
   module _ {b : Bool} (e : b ≡ notation n) (t : not b ≡ false) where
-    pub check₂ : {r : Checked} → 255 < length s → Rejects 2 r → Checks n s r
+    pub check₂ : {z : Lent} {r : Checked} → 255 < length s → Rejects 2 r → Checks n s z r
     unfolding checked unless
     check₂ l w = turned-down w (rw (← e, not-false b t, lt-leb (length s) most-bytes l))
 
     module _ (l : length s ≤ 255) where
-      pub check₃ : {a : Bool} {r : Checked} → a ≡ all admitted s → not a ≡ true → Rejects 3 r → Checks n s r
+      pub check₃ : {a : Bool} {z : Lent} {r : Checked} → a ≡ all admitted s → not a ≡ true → Rejects 3 r → Checks n s z r
       unfolding checked unless
       check₃ {a} q u w = turned-down w (rw (← e, not-false b t, le-leb (length s) most-bytes l, ← q, not-true a u))
 
-      module _ {a : Bool} (q : a ≡ all admitted s) (u : not a ≡ false) {x : Rules} (rules : rules-of n ≡ some x) {o : LabelRead} (reads : ReadsLabel x s o) where
+      module _ {a : Bool} (q : a ≡ all admitted s) (u : not a ≡ false) {x : Rules} (rules : rules-of n ≡ some x) {z : Lent} {o : LabelRead} (reads : ReadsLabel x s z o) where
         by-grammar : checked n s ≡ check-grammar s (parsed-by (o .ok) (factor-in s (o .factor)) (reads .tells .parts))
         unfolding checked unless parse parse-with
         by-grammar = rw (← e, not-false b t, le-leb (length s) most-bytes l, ← q, not-false a u, rules) (ap (check-grammar s) (reads .tells .is))
 
-        pub check₄ : {r : Checked} → not (o .ok) ≡ true → Rejects 4 r → Checks n s r
+        pub check₄ : {r : Checked} → not (o .ok) ≡ true → Rejects 4 r → Checks n s z r
         unfolding check-grammar
         check₄ v w = turned-down w (by-grammar ∙ rw (not-true (o .ok) v))
 
-        pub check₅ : {r : Checked} → not (o .ok) ≡ false → ChecksValues s o r → Checks n s r
+        pub check₅ : {r : Checked} → not (o .ok) ≡ false → ChecksValues s (o .factor) (count z) (broken z) r → Checks n s z r
         unfolding check-grammar
         check₅ {r} v w = record {
-          is = by-grammar ∙ rw (good) (w .is (reads .tells .parts) holds);
+          is = by-grammar ∙ rw (good) (w .is z (reads .tells .parts) refl refl holds);
           small = λ k. notation-small n (sym e ∙ not-false b t);
+          short = λ k. l;
           few = w .few;
-          room = λ k. rw (w .same k) (holds .room);
-          inside = λ k. rw (w .same k) (holds .inside (few k));
+          inside = λ k. rw (holds .counted) (holds .inside (omega (arith, w .few k, holds .counted)));
         }
           where
             good : o .ok ≡ true
             good = not-false (o .ok) v
 
-            holds : Holds s (o .terms) (reads .tells .parts)
+            holds : Holds s z (reads .tells .parts)
             holds = reads .tells .holds good
-
-            few : r .ok ≡ true → length (reads .tells .parts) ≤ 32
-            few k = omega (arith, rw (w .same k) at (w .few k), holds .count)

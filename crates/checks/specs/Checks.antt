@@ -3,21 +3,20 @@ use Prim.Native.Nat.{ℕ, _≤_}
 use mathlib.Core.Path.{_≡_}
 use mathlib.Core.Bool.{Bool, true, false}
 use mathlib.Core.List.{List, map}
-use lib.ListN.{length, take}
+use lib.ListN.{length}
 use Rattle.label.specs.declared.Tens.{Tens}
+use Rattle.label.specs.declared.WrittenFactor.{WrittenFactor}
 use Rattle.label.specs.Lexical.{Part}
 use Rattle.label.specs.Ranges.{factor-in}
 use Rattle.label.specs.Split.{Placed, valued}
 use Rattle.label.specs.Reading.{refuse, accept, check-values, checked}
 use Rattle.label.specs.Reading as spec
-use Rattle.descent.specs.declared.terms.Terms.{Terms}
-use Rattle.descent.specs.declared.whole.LabelRead.{LabelRead}
-use Rattle.descent.specs.Terms.{placed-in, AllIn, Holds}
+use Rattle.descent.specs.Terms.{Lent, count, broken, terms, placed-in, AllIn, Holds}
 use Rattle.checks.specs.declared.check.Checked.{Checked}
 
 -- the units that the terms stand for
-abbrev pub units-in : List ℕ → Terms → List Placed
-units-in s t = map (placed-in s) (take (t .count) (t .kept))
+abbrev pub units-in : List ℕ → Lent → List Placed
+units-in s t = map (placed-in s) (terms t (count t))
 
 -- values, or the number of a refusal
 abbrev pub checked-by : Bool → ℕ → Tens → List Placed → spec.Checked
@@ -33,15 +32,16 @@ pub record Rejects (i : ℕ) (r : Checked) : Type 0 where
   pub refused : r .ok ≡ false
   pub number : r .number ≡ i
 
-pub record ChecksValues (s : List ℕ) (o : LabelRead) (r : Checked) : Type 0 where
-  pub is : (ps : List Part) → Holds s (o .terms) ps
-      → check-values s (valued (factor-in s (o .factor)) ps) ≡ checked-by (r .ok) (r .number) (r .k) (units-in s (r .terms))
-  pub few : r .ok ≡ true → r .terms .count ≤ 32
-  pub same : r .ok ≡ true → r .terms ≡ o .terms
+-- a label with the factor w and n terms that are in the grammar; m says whether a power breaks its bound
+pub record ChecksValues (s : List ℕ) (w : WrittenFactor) (n m : ℕ) (r : Checked) : Type 0 where
+  pub is : (t : Lent) (ps : List Part) → count t ≡ n → broken t ≡ m → Holds s t ps
+      → check-values s (valued (factor-in s w) ps) ≡ checked-by (r .ok) (r .number) (r .k) (units-in s t)
+  pub few : r .ok ≡ true → n ≤ 32
 
-pub record Checks (n : ℕ) (s : List ℕ) (r : Checked) : Type 0 where
-  pub is : checked n s ≡ checked-by (r .ok) (r .number) (r .k) (units-in s (r .terms))
+-- the terms t are the label's where it is accepted
+pub record Checks (n : ℕ) (s : List ℕ) (t : Lent) (r : Checked) : Type 0 where
+  pub is : checked n s ≡ checked-by (r .ok) (r .number) (r .k) (units-in s t)
   pub small : r .ok ≡ true → n ≤ 4
-  pub few : r .ok ≡ true → r .terms .count ≤ 32
-  pub room : r .ok ≡ true → length (r .terms .kept) ≡ 32
-  pub inside : r .ok ≡ true → AllIn s (take (r .terms .count) (r .terms .kept))
+  pub short : r .ok ≡ true → length s ≤ 255
+  pub few : r .ok ≡ true → count t ≤ 32
+  pub inside : r .ok ≡ true → AllIn s (terms t (count t))

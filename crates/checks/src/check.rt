@@ -2,36 +2,32 @@
 use crate::bytes::all_admitted;
 use crate::notation::is_notation;
 use crate::notation::rules;
-use descent::terms::Terms;
-use descent::terms::no_terms;
-use descent::whole::LabelRead;
 use descent::whole::read_label;
 use label::Tens;
+use label::WrittenFactor;
 use values::brackets::deepest;
 use values::factors::factor;
 ghost use mathlib.Core.Path.{_≡_};
 ghost use Rattle.label.specs.Ranges.{FactorInside};
+ghost use Rattle.descent.specs.Terms.{lent, Empty};
 ghost use Rattle.checks.specs.Checks.{Rejects, ChecksValues, Checks};
 ghost use Rattle.checks.specs.Checks as spec;
 
-// What a label says, or the number of the first refusal that is due.
+// What a label says, its terms in lent arrays, or the number of the first refusal that is due.
 pub struct Checked {
     pub ok: bool,
     pub number: u8,
     pub k: Tens,
-    pub terms: Terms,
 }
 
 // Refusal `i`.
 pub fn rejected(i: u8) -> Checked
     ensures { λ r. ⌜ Rejects i r ⌝ }
 {
-    let terms = no_terms();
     Checked {
         ok: false,
         number: i,
         k: Tens(0),
-        terms,
     }
 }
 
@@ -45,31 +41,29 @@ fn due(passed: bool, i: u8, after: u8) -> u8
     i
 }
 
-// Refusals 5 to 7 of a label that is in the grammar.
-pub fn check_values(s: &[u8], o: LabelRead) -> Checked
-    requires { ⌜ FactorInside (now s) (o .factor) ⌝ }
-    ensures { λ r. ⌜ ChecksValues (now (s .entry)) o r ⌝ }
+// Refusals 5 to 7 of a label that is in the grammar: its factor, how many terms it has, and 1 where an exponent breaks its bound.
+pub fn check_values(s: &[u8], written: WrittenFactor, count: usize, broken: usize) -> Checked
+    requires { ⌜ FactorInside (now s) written ⌝ }
+    ensures { λ r. ⌜ ChecksValues (now (s .entry)) written count broken r ⌝ }
 {
-    let written = o.factor;
-    let terms = o.terms;
     let f = factor(s, written);
     let ten = f.ok;
-    let whole = !terms.broken;
+    let whole = broken == 0;
     let shallow = deepest(s) <= 8;
-    let few = terms.count <= 32;
+    let few = count <= 32;
     let number = due(ten, 5, due(whole, 5, due(shallow, 6, due(few, 7, 0))));
     let k = f.k;
     Checked {
         ok: number == 0,
         number,
         k,
-        terms,
     }
 }
 
 // Refusals 1 to 7.
-pub fn check(n: u32, s: &[u8]) -> Checked
-    ensures { λ r. ⌜ Checks n (now (s .entry)) r ⌝ }
+pub fn check(n: u32, s: &[u8], places: &mut [usize; 66], exponents: &mut [i32; 32]) -> Checked
+    requires { ⌜ Empty (lent (now places) (now exponents)) ⌝ }
+    ensures { λ r. ⌜ Checks n (now (s .entry)) (lent (now (places .exit)) (now (exponents .exit))) r ⌝ }
 {
     if !is_notation(n) {
         return rejected(1);
@@ -80,9 +74,10 @@ pub fn check(n: u32, s: &[u8]) -> Checked
     if !all_admitted(s) {
         return rejected(3);
     }
-    let o = read_label(rules(n), s);
+    let o = read_label(rules(n), s, places, exponents);
     if !o.ok {
         return rejected(4);
     }
-    check_values(s, o)
+    let written = o.factor;
+    check_values(s, written, places[64], places[65])
 }

@@ -1,12 +1,9 @@
 -- One term more: verdicts and totals over terms with one more at the end.
-use Prim.Native.Nat.{ℕ, _+_, _<_}
-use native.Mathlib.Numerals.{add-one}
+use Prim.Native.Nat.{ℕ, _+_}
 use mathlib.Core.Path.{_≡_, refl, sym, ap, _∙_}
 use mathlib.Core.Bool.{Bool, true, false, _&&_}
-use mathlib.Core.List.{List, [], _∷_, _++_, map-append}
+use mathlib.Core.List.{List, [], _∷_, _++_}
 use lib.IntN.{ℤ, _+ℤ_, _*ℤ_, +ℤ-idl, +ℤ-idr, +ℤ-assoc}
-use lib.ListN.{length, take, getD}
-use lib.Seq.{take-suc}
 use Rattle.label.specs.Choice.{pick}
 use Rattle.label.specs.Ranges.{between}
 use Rattle.label.specs.Reading as spec
@@ -14,15 +11,11 @@ use Rattle.label.specs.Reading.{every, is-known, is-lawful, is-recommended, tot
 use Rattle.label.specs.Symbols.{Symbol, known, unknown}
 use Rattle.symbols.specs.declared.Symbol as code
 use Rattle.symbols.specs.Views.{place, symbol-in}
-use Rattle.content.specs.declared.term.Term.{Term}
+use Rattle.descent.specs.Terms.{Lent}
 use Rattle.content.specs.declared.verdicts.Verdicts.{Verdicts}
-use Rattle.content.specs.Views.{term-in, terms-in}
+use Rattle.content.specs.Views.{symbol-at, term-in, terms-in}
 use Rattle.content.specs.Verdicts.{VerdictsOn}
-
--- the first i + 1 terms are the first i and the one at i
-pub one-more : (s : List ℕ) (ts : List Term) (i : ℕ) (d : Term) → i < length ts
-    → terms-in s (i + 1) ts ≡ terms-in s i ts ++ (term-in s (getD ts i d) ∷ [])
-one-more s ts i d h = rw (add-one i, take-suc ts i d h) (map-append (term-in s) (take i ts) (getD ts i d ∷ []))
+use Rattle.content.proofs.Naming.{terms-more}
 
 -- VERDICTS
 
@@ -49,21 +42,18 @@ known-told s x = go (x .known)
     go true = refl
     go false = refl
 
-module _ (s : List ℕ) (ts : List Term) (i : ℕ) (d : Term) (h : i < length ts) where
-  abbrev symbol-at : Symbol
-  symbol-at = symbol-in s (getD ts i d .symbol)
-
-  every-one-more : (p : Symbol → Bool) → (every p (terms-in s i ts) && p symbol-at) ≡ every p (terms-in s (i + 1) ts)
-  every-one-more p = sym (every-more p (terms-in s i ts) (term-in s (getD ts i d))) ∙ ap (every p) (sym (one-more s ts i d h))
+module _ (s : List ℕ) (t : Lent) (x : List ℕ) (i : ℕ) (y : code.Symbol) (told : symbol-in s y ≡ symbol-at s x i) where
+  every-one-more : (p : Symbol → Bool) → (every p (terms-in s t x i) && p (symbol-in s y)) ≡ every p (terms-in s t x (i + 1))
+  every-one-more p = rw told (sym (every-more p (terms-in s t x i) (term-in s t x i)) ∙ ap (every p) (sym (terms-more s t x i)))
 
   -- each verdict on one term more is the verdict before it and that on the term
-  pub verdicts-more : {n : ℕ} {a b : Verdicts} {l r : Bool} → VerdictsOn n (terms-in s i ts) a
-      → b .known ≡ (a .known && getD ts i d .symbol .known)
-      → b .lawful ≡ (a .lawful && l) → l ≡ is-lawful n symbol-at
-      → b .recommended ≡ (a .recommended && r) → r ≡ is-recommended symbol-at
-      → VerdictsOn n (terms-in s (i + 1) ts) b
+  pub verdicts-more : {n : ℕ} {a b : Verdicts} {l r : Bool} → VerdictsOn n (terms-in s t x i) a
+      → b .known ≡ (a .known && y .known)
+      → b .lawful ≡ (a .lawful && l) → l ≡ is-lawful n (symbol-in s y)
+      → b .recommended ≡ (a .recommended && r) → r ≡ is-recommended (symbol-in s y)
+      → VerdictsOn n (terms-in s t x (i + 1)) b
   verdicts-more {n} v known-step lawful-step lawful-told recommended-step recommended-told = record {
-    known-is = known-step ∙ (rw (v .known-is, known-told s (getD ts i d .symbol)) (every-one-more is-known));
+    known-is = known-step ∙ (rw (v .known-is, known-told s y) (every-one-more is-known));
     lawful-is = lawful-step ∙ (rw (v .lawful-is, lawful-told) (every-one-more (is-lawful n)));
     recommended-is = recommended-step ∙ (rw (v .recommended-is, recommended-told) (every-one-more is-recommended));
   }

@@ -4,7 +4,7 @@ use native.Mathlib.Omega.{arith}
 use mathlib.Core.Path.{_≡_, refl, sym, ap, _∙_}
 use mathlib.Core.List.{List, [], _∷_, map}
 use lib.IntN.{ℤ, pos, natAbs, _+ℤ_, _*ℤ_, +ℤ-idl, +ℤ-idr, +ℤ-assoc}
-use lib.ListN.{length, getD, replicate, length-replicate}
+use lib.ListN.{length, getD, length-replicate}
 use mir.Syntax.{w64}
 use mir.Val.{toZ, ofZ}
 use mir.Facts.{toZ-ofZ}
@@ -16,12 +16,14 @@ use Rattle.label.specs.Reading.{exponent, sum, times, one, base-in, prime-in, t
 use Rattle.label.specs.Symbols.{Symbol}
 use Rattle.symbols.specs.Slots.{prime-at}
 use Rattle.symbols.specs.Views.{symbol-in}
-use Rattle.content.specs.declared.term.Term.{Term}
-use Rattle.content.specs.Views.{term-in, terms-in}
-use Rattle.content.specs.Sums.{Within, Summable, Added}
+use Rattle.symbols.specs.declared.Symbol.{Symbol as Coded}
+use Rattle.descent.specs.Terms.{Lent}
+use Rattle.content.specs.Views.{symbol-at, term-in, terms-in}
+use Rattle.content.specs.Sums.{Within, Summable, Added, zeros}
 use Rattle.content.proofs.Integers.{wide-fits}
 use Rattle.content.proofs.Listing.{listed}
-use Rattle.content.proofs.TermLaws.{one-more, total-more}
+use Rattle.content.proofs.Naming.{terms-more}
+use Rattle.content.proofs.TermLaws.{total-more}
 
 -- to each sum of xs the total over the terms has been added
 pub record Totals (f : ℕ → Symbol → ℤ) (ts : List spec.Term) (xs ys : List ℤ) : Type 0 where
@@ -32,34 +34,36 @@ pub no-totals : (f : ℕ → Symbol → ℤ) (xs : List ℤ) → Totals f [] xs 
 unfolding total
 no-totals f xs = record { room = refl; sums = λ b h. sym (+ℤ-idr (getD xs b (pos 0))) }
 
-module _ (s : List ℕ) (ts : List Term) (i : ℕ) (d : Term) (h : i < length ts) where
-  pub one-total : {f : ℕ → Symbol → ℤ} {xs ys zs : List ℤ} → Totals f (terms-in s i ts) xs ys
-      → Added (λ b. f b (symbol-in s (getD ts i d .symbol))) (getD ts i d .exponent) ys zs
-      → Totals f (terms-in s (i + 1) ts) xs zs
-  one-total {f} {xs} v a = record {
+module _ (s : List ℕ) (t : Lent) (x : List ℕ) (i : ℕ) (y : Coded) (told : symbol-in s y ≡ symbol-at s x i) (e : Exponent)
+    (same : e .0 ≡ getD (t .exponents) i (pos 0)) where
+  pub one-total : {f : ℕ → Symbol → ℤ} {xs ys zs : List ℤ} → Totals f (terms-in s t x i) xs ys
+      → Added (λ b. f b (symbol-in s y)) e ys zs → Totals f (terms-in s t x (i + 1)) xs zs
+  one-total {f} {xs} {ys} v a = record {
     room = a .room ∙ v .room;
     sums = λ b l.
-        let z = getD ts i d in
+        let z = f b (symbol-at s x i) *ℤ getD (t .exponents) i (pos 0) in
         a .added b (omega (arith, v .room))
-        ∙ ap (λ (y : ℤ). y +ℤ f b (symbol-in s (z .symbol)) *ℤ z .exponent .0) (v .sums b l)
-        ∙ +ℤ-assoc (getD xs b (pos 0)) (total (f b) (terms-in s i ts) .0) (f b (symbol-in s (z .symbol)) *ℤ z .exponent .0)
-        ∙ ap (λ (y : ℤ). getD xs b (pos 0) +ℤ y) (sym (total-more (f b) (terms-in s i ts) (term-in s z)))
-        ∙ ap (λ (us : List spec.Term). getD xs b (pos 0) +ℤ total (f b) us .0) (sym (one-more s ts i d h));
+        ∙ ap (λ (w : Symbol). getD ys b (pos 0) +ℤ f b w *ℤ e .0) told
+        ∙ ap (λ (w : ℤ). getD ys b (pos 0) +ℤ f b (symbol-at s x i) *ℤ w) same
+        ∙ ap (λ (w : ℤ). w +ℤ z) (v .sums b l)
+        ∙ +ℤ-assoc (getD xs b (pos 0)) (total (f b) (terms-in s t x i) .0) z
+        ∙ ap (λ (w : ℤ). getD xs b (pos 0) +ℤ w) (sym (total-more (f b) (terms-in s t x i) (term-in s t x i)))
+        ∙ ap (λ (us : List spec.Term). getD xs b (pos 0) +ℤ total (f b) us .0) (sym (terms-more s t x i));
   }
 
 -- WHERE THE SUMS START
 
 -- the dimensions start at 0
-zeros : (n b : ℕ) → getD (replicate n (pos 0)) b (pos 0) ≡ pos 0
-zeros zero b = refl
-zeros (suc n) zero = refl
-zeros (suc n) (suc b) = zeros n b
+zero-at : (n b : ℕ) → getD (zeros n) b (pos 0) ≡ pos 0
+zero-at zero b = refl
+zero-at (suc n) zero = refl
+zero-at (suc n) (suc b) = zero-at n b
 
-pub zeros-within : (n m : ℕ) → Within m (replicate n (pos 0))
-zeros-within n m = record { within = λ b. rw (zeros n b) (omega arith) }
+pub zeros-within : (n m : ℕ) → Within m (zeros n)
+zeros-within n m = record { within = λ b. rw (zero-at n b) (omega arith) }
 
 -- the scale starts at the factor's tens: a number for 2 and for 5, and nothing for 3 and for 487
-abbrev tens : ℤ → List ℤ
+abbrev pub tens : ℤ → List ℤ
 tens z = z ∷ pos 0 ∷ z ∷ pos 0 ∷ []
 
 module _ (r : ℤ) (small : natAbs r ≤ 2 ^ 37) where
@@ -103,13 +107,13 @@ bound-more i w a = record { within = λ b. omega (arith, a .growth (bound i) w .
 -- DIMENSIONS AND SCALE
 
 -- the dimensions, from sums that started at 0
-pub dimensions-are : (ts : List spec.Term) (ys : List ℤ) → Totals base-in ts (replicate base-count (pos 0)) ys → map exponent ys ≡ dimensions-of ts
+pub dimensions-are : (ts : List spec.Term) (ys : List ℤ) → Totals base-in ts (zeros base-count) ys → map exponent ys ≡ dimensions-of ts
 unfolding dimensions-of
 dimensions-are ts ys v =
     listed base-count (λ b. total (base-in b) ts) ys (v .room ∙ length-replicate base-count (pos 0))
     (λ b h. ap exponent
     (v .sums b (omega (arith, length-replicate base-count (pos 0)))
-    ∙ ap (λ (z : ℤ). z +ℤ total (base-in b) ts .0) (zeros base-count b)
+    ∙ ap (λ (z : ℤ). z +ℤ total (base-in b) ts .0) (zero-at base-count b)
     ∙ +ℤ-idl (total (base-in b) ts .0)))
 
 -- the scale, from sums that started at the factor's tens

@@ -3,8 +3,12 @@ use Prim.Native.Nat.{ℕ, _+_, _<_, _≤_, _^_}
 use mathlib.Core.Path.{_≡_}
 use mathlib.Core.List.{List}
 use lib.IntN.{ℤ, pos, natAbs, _+ℤ_, _*ℤ_}
-use lib.ListN.{length, getD}
+use lib.ListN.{length, getD, replicate}
 use Rattle.label.specs.declared.Exponent.{Exponent}
+
+-- n sums of nothing
+abbrev pub zeros : ℕ → List ℤ
+zeros n = replicate n (pos 0)
 
 -- every sum is at most m, up or down
 pub record Within (m : ℕ) (xs : List ℤ) : Type 0 where

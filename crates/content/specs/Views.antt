@@ -1,22 +1,34 @@
--- What the terms of a reading stand for.
-use Prim.Native.Nat.{ℕ}
-use mathlib.Core.Bool.{false}
-use mathlib.Core.List.{List, map}
+-- What the lent arrays hold of the terms of a label.
+use Prim.Native.Nat.{ℕ, zero, suc, _+_, _-_}
+use mathlib.Core.List.{List, [], _∷_, _++_}
+use mathlib.Core.Option.{Option}
 use lib.IntN.{pos}
-use lib.ListN.{take}
-use Rattle.label.specs.Reading.{exponent}
-use Rattle.label.specs.Reading as spec
-use Rattle.symbols.specs.Views.{symbol-in}
-use Rattle.content.specs.declared.term.Term.{Term}
+use lib.ListN.{getD}
+use Rattle.label.specs.Ranges.{between}
+use Rattle.label.specs.Symbols.{Symbol, known, unknown}
+use Rattle.label.specs.Reading.{Term, exponent}
+use Rattle.symbols.specs.Views.{place}
+use Rattle.descent.specs.Terms.{Lent}
 
--- a term of the label s
-abbrev pub term-in : List ℕ → Term → spec.Term
-term-in s t = record { symbol = symbol-in s (t .symbol); exponent = t .exponent; start = t .start; size = t .size }
+-- a unit by its code: one more than its row, or 0 for an unknown one, which has letters
+unfoldable pub by-code : ℕ → Option ℕ → List ℕ → Symbol
+by-code zero p l = unknown p l
+by-code (suc u) p l = known p u
+
+-- what the spelling of term i of the label s stands for, by the array of names
+unfoldable pub symbol-at : List ℕ → List ℕ → ℕ → Symbol
+symbol-at s x i = by-code (getD x (32 + i) 0) (place (getD x i 0)) (between s (getD x (64 + i) 0) (getD x (96 + i) 0))
+
+-- term i of the label s
+abbrev pub term-in : List ℕ → Lent → List ℕ → ℕ → Term
+term-in s t x i = record {
+  symbol = symbol-at s x i;
+  exponent = exponent (getD (t .exponents) i (pos 0));
+  start = getD (t .places) i 0;
+  size = getD (t .places) (32 + i) 0 - getD (t .places) i 0;
+}
 
 -- the first so many terms
-abbrev pub terms-in : List ℕ → ℕ → List Term → List spec.Term
-terms-in s count ts = map (term-in s) (take count ts)
-
--- what stands behind the last term
-abbrev pub no-term : Term
-no-term = record { symbol = record { known = false; prefix = 0; unit = 0; start = 0; end = 0 }; exponent = exponent (pos 0); start = 0; size = 0 }
+unfoldable pub terms-in : List ℕ → Lent → List ℕ → ℕ → List Term
+terms-in s t x zero = []
+terms-in s t x (suc i) = terms-in s t x i ++ (term-in s t x i ∷ [])

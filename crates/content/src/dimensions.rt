@@ -1,6 +1,8 @@
 // The dimensions of a reading: the exponent of each base, summed over the terms.
+use crate::named::symbol_at;
 use crate::sums::plus;
-use crate::term::Term;
+use label::Exponent;
+use symbols::Symbol;
 use symbols::properties::slot_base;
 use symbols::properties::slot_power;
 ghost use mathlib.Core.Path.{_≡_};
@@ -9,17 +11,16 @@ ghost use Prim.Native.Nat.{ℕ, _≤_};
 ghost use Rattle.label.specs.Reading.{exponent, base-in, dimensions-of};
 ghost use Rattle.symbols.specs.Columns.{unit-bases, unit-powers};
 ghost use Rattle.symbols.specs.Views.{symbol-in};
+ghost use Rattle.descent.specs.Terms.{lent};
 ghost use Rattle.content.specs.Views.{terms-in};
-ghost use Rattle.content.specs.Sums.{Summable, Added};
+ghost use Rattle.content.specs.Sums.{Summable, Added, zeros};
 
 // Adds a term to the sums: to the sum of each base, the base's power in the term's unit times the term's exponent.
-fn add_bases(bases: &[u8], powers: &[i8], t: Term, sums: &mut [i64; 32])
+fn add_bases(bases: &[u8], powers: &[i8], x: Symbol, e: Exponent, sums: &mut [i64; 32])
     requires { ⌜ (now bases ≡ unit-bases) × ((now powers ≡ unit-powers) × Summable 32 (now sums)) ⌝ }
     ensures { λ _. ⌜ ((s : List ℕ) →
-        Added (λ b. base-in b (symbol-in s (t .symbol))) (t .exponent) (now (sums .entry)) (now (sums .exit))) ⌝ }
+        Added (λ b. base-in b (symbol-in s x)) e (now (sums .entry)) (now (sums .exit))) ⌝ }
 {
-    let x = t.symbol;
-    let e = t.exponent;
     let mut slot = 0;
     while slot < 4 {
         let base = slot_base(bases, x, slot) as usize;
@@ -29,17 +30,25 @@ fn add_bases(bases: &[u8], powers: &[i8], t: Term, sums: &mut [i64; 32])
     }
 }
 
-// The exponent of each base, by its number, in the first `count` terms. The columns are lent.
-pub fn dimensions(bases: &[u8], powers: &[i8], count: usize, terms: [Term; 32]) -> [i64; 32]
+// The exponent of each base, by its number, in the first `count` terms, in sums that start at 0. The columns are lent.
+pub fn dimensions(
+    bases: &[u8],
+    powers: &[i8],
+    count: usize,
+    exponents: &[i32; 32],
+    names: &[u8; 128],
+    sums: &mut [i64; 32],
+)
     requires { ⌜ (now bases ≡ unit-bases) × ((now powers ≡ unit-powers) × (count ≤ 32)) ⌝ }
-    ensures { λ r. ⌜ ((s : List ℕ) → map exponent r ≡ dimensions-of (terms-in s count terms)) ⌝ }
+    requires { ⌜ now sums ≡ zeros 32 ⌝ }
+    ensures { λ _. ⌜ ((s p : List ℕ) → map exponent (now (sums .exit))
+        ≡ dimensions-of (terms-in s (lent p (now (exponents .entry))) (now (names .entry)) count)) ⌝ }
 {
-    let mut sums: [i64; 32] = [0; 32];
     let mut i = 0;
     while i < count {
-        let t = terms[i];
-        add_bases(bases, powers, t, &mut sums);
+        let x = symbol_at(names, i);
+        let e = Exponent(exponents[i]);
+        add_bases(bases, powers, x, e, sums);
         i += 1;
     }
-    sums
 }

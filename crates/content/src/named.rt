@@ -1,8 +1,6 @@
-// The terms of a label with their symbols.
-use crate::term::Term;
-use descent::terms::Term as Unit;
-use descent::terms::Terms;
-use label::Exponent;
+// What the spellings of a label's terms stand for, in a lent array. `names` has the prefixes of 32 terms at 0 to 31, each as one more than its
+// place in the table, or 0; their units at 32 to 63, each as one more than its row, or 0 for an unknown one; and where the letters of an
+// unknown unit start and end in the label, at 64 to 95 and at 96 to 127.
 use symbols::Symbol;
 use symbols::lookup::symbol;
 use symbols::tables::name_keys;
@@ -11,79 +9,84 @@ use symbols::tables::name_notations;
 use symbols::tables::name_units;
 use symbols::tables::prefix_keys;
 use symbols::tables::prefix_lengths;
-ghost use Prim.Native.Nat.{_≤_};
+ghost use Prim.Native.Nat.{ℕ, _<_};
 ghost use mathlib.Core.Path.{_≡_};
-ghost use lib.ListN.{length};
-ghost use Rattle.symbols.specs.Columns.{NameColumns, PrefixColumns};
-ghost use Rattle.descent.specs.Terms.{InLabel, AllIn};
-ghost use Rattle.content.specs.Views.{no-term};
-ghost use Rattle.content.specs.Named.{Named, AllNamed};
+ghost use mathlib.Core.List.{List};
+ghost use lib.ListN.{length, getD};
+ghost use Rattle.symbols.specs.Views.{symbol-in};
+ghost use Rattle.descent.specs.Terms.{lent};
+ghost use Rattle.content.specs.Views.{symbol-at};
+ghost use Rattle.content.specs.Named.{Short, Noted, Nameable, AllNamed};
+ghost use Rattle.content.specs.Named as spec;
 
-// A unit of a label as notation `n` reads its spelling.
-pub fn named(
-    lengths: &[u8],
-    keys: &[u64],
-    notations: &[u8],
-    units: &[u8],
-    prefix_lengths: &[u8],
-    prefix_keys: &[u64],
-    n: u8,
-    s: &[u8],
-    t: Unit,
-) -> Term
-    requires { ⌜ NameColumns (now lengths) (now keys) (now notations) (now units) ⌝ }
-    requires { ⌜ PrefixColumns (now «prefix_lengths») (now «prefix_keys») ⌝ }
-    requires { ⌜ InLabel (now s) t ⌝ }
-    ensures { λ r. ⌜ Named n (now (s .entry)) t r ⌝ }
+// One more than the row of a known unit; 0 for an unknown one.
+fn unit_code(x: Symbol) -> u8
+    requires { ⌜ x .unit < 255 ⌝ }
+    ensures { λ r. ⌜ r ≡ spec.unit-code x ⌝ }
 {
-    let start = t.start as usize;
-    let end = t.end as usize;
-    let symbol = symbol(
-        lengths,
-        keys,
-        notations,
-        units,
-        prefix_lengths,
-        prefix_keys,
-        n,
-        s,
+    if x.known {
+        return x.unit + 1;
+    }
+    0
+}
+
+// Notes what the spelling of term `i` stands for.
+fn note(names: &mut [u8; 128], i: usize, x: Symbol)
+    requires { ⌜ (length (now names) ≡ 128) × ((i < 32) × Short x) ⌝ }
+    ensures { λ _. ⌜ Noted (now (names .entry)) i x (now (names .exit)) ⌝ }
+{
+    names[i] = x.prefix;
+    names[32 + i] = unit_code(x);
+    names[64 + i] = x.start as u8;
+    names[96 + i] = x.end as u8;
+}
+
+// The number at `i`.
+pub fn number_at(names: &[u8; 128], i: usize) -> u8
+    requires { ⌜ i < 128 ⌝ }
+    ensures { λ r. ⌜ r ≡ getD (now (names .entry)) i 0 ⌝ }
+{
+    names[i]
+}
+
+// What the spelling of term `i` stands for.
+pub fn symbol_at(names: &[u8; 128], i: usize) -> Symbol
+    requires { ⌜ i < 32 ⌝ }
+    ensures { λ r. ⌜ ((s : List ℕ) → symbol-in s r ≡ symbol-at s (now (names .entry)) i) ⌝ }
+{
+    let prefix = names[i];
+    let code = names[32 + i];
+    let start = number_at(names, 64 + i) as usize;
+    let end = number_at(names, 96 + i) as usize;
+    if code == 0 {
+        return Symbol {
+            known: false,
+            prefix,
+            unit: 0,
+            start,
+            end,
+        };
+    }
+    Symbol {
+        known: true,
+        prefix,
+        unit: code - 1,
         start,
         end,
-    );
-    let exponent = t.exponent;
-    Term {
-        symbol,
-        exponent,
-        start: t.start,
-        size: t.end - t.start,
     }
 }
 
-// What stands behind the last term.
-pub fn no_term() -> Term
-    ensures { λ r. ⌜ r ≡ no-term ⌝ }
-{
-    let symbol = Symbol {
-        known: false,
-        prefix: 0,
-        unit: 0,
-        start: 0,
-        end: 0,
-    };
-    Term {
-        symbol,
-        exponent: Exponent(0),
-        start: 0,
-        size: 0,
-    }
-}
-
-// The first `t.count` terms, at most 32, as notation `n` reads their spellings.
-pub fn all_named(n: u8, s: &[u8], t: Terms) -> [Term; 32]
-    requires { ⌜ t .count ≤ 32 ⌝ }
-    requires { ⌜ length (t .kept) ≡ 32 ⌝ }
-    requires { ⌜ AllIn (now s) (lib.ListN.take (t .count) (t .kept)) ⌝ }
-    ensures { λ r. ⌜ AllNamed n (now (s .entry)) t r ⌝ }
+// Notes for each term, of at most 32, what its spelling stands for in notation `n`.
+pub fn all_named(
+    n: u8,
+    s: &[u8],
+    places: &[usize; 66],
+    exponents: &[i32; 32],
+    names: &mut [u8; 128],
+)
+    requires { ⌜ Nameable (now s) (lent (now places) (now exponents)) ⌝ }
+    requires { ⌜ length (now names) ≡ 128 ⌝ }
+    ensures { λ _. ⌜ AllNamed n (now (s .entry)) (lent (now (places .entry)) (now (exponents .entry))) (now (names .exit)) ⌝ }
 {
     let lengths = name_lengths();
     let keys = name_keys();
@@ -91,12 +94,12 @@ pub fn all_named(n: u8, s: &[u8], t: Terms) -> [Term; 32]
     let units = name_units();
     let prefix_lengths = prefix_lengths();
     let prefix_keys = prefix_keys();
-    let count = t.count;
-    let mut terms = [no_term(); 32];
+    let count = places[64];
     let mut i = 0;
     while i < count {
-        let unit = t.kept[i];
-        terms[i] = named(
+        let start = places[i];
+        let end = places[32 + i];
+        let x = symbol(
             &lengths,
             &keys,
             &notations,
@@ -105,9 +108,10 @@ pub fn all_named(n: u8, s: &[u8], t: Terms) -> [Term; 32]
             &prefix_keys,
             n,
             s,
-            unit,
+            start,
+            end,
         );
+        note(names, i, x);
         i += 1;
     }
-    terms
 }

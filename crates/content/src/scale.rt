@@ -1,7 +1,9 @@
 // The scale of a reading: the exponents of the primes 2, 3, 5 and 487, from the factor, the prefixes and the sizes.
+use crate::named::symbol_at;
 use crate::sums::plus;
-use crate::term::Term;
+use label::Exponent;
 use label::Tens;
+use symbols::Symbol;
 use symbols::properties::prime_power;
 ghost use mathlib.Core.Path.{_≡_};
 ghost use mathlib.Core.List.{List, map};
@@ -11,18 +13,16 @@ ghost use Rattle.label.specs.Reading.{exponent, prime-in, scale-of};
 ghost use Rattle.symbols.specs.Columns.{prefix-powers, unit-primes};
 ghost use Rattle.symbols.specs.Slots.{prime-at};
 ghost use Rattle.symbols.specs.Views.{symbol-in};
+ghost use Rattle.descent.specs.Terms.{lent};
 ghost use Rattle.content.specs.Views.{terms-in};
-ghost use Rattle.content.specs.Sums.{Summable, Added};
+ghost use Rattle.content.specs.Sums.{Summable, Added, zeros};
 
 // Adds a term to the sums: to the sum of each prime, the prime's power in the term's symbol times the term's exponent.
-fn add_primes(prefixes: &[i8], primes: &[i8], t: Term, sums: &mut [i64; 4])
+fn add_primes(prefixes: &[i8], primes: &[i8], x: Symbol, e: Exponent, sums: &mut [i64; 4])
     requires { ⌜ (now prefixes ≡ prefix-powers) × ((now primes ≡ unit-primes) × Summable 4 (now sums)) ⌝ }
     ensures { λ _. ⌜ ((s : List ℕ) →
-        Added (λ b. prime-in (prime-at b) (symbol-in s (t .symbol))) (t .exponent)
-        (now (sums .entry)) (now (sums .exit))) ⌝ }
+        Added (λ b. prime-in (prime-at b) (symbol-in s x)) e (now (sums .entry)) (now (sums .exit))) ⌝ }
 {
-    let x = t.symbol;
-    let e = t.exponent;
     let mut prime = 0;
     while prime < 4 {
         let power = prime_power(prefixes, primes, x, prime);
@@ -38,18 +38,29 @@ fn in_sixtieths(k: Tens) -> i64
     k.0 as i64 * 60
 }
 
-// The exponent of each prime in the factor, ten to the power `k`, and the first `count` terms. The columns are lent.
-pub fn scale(prefixes: &[i8], primes: &[i8], k: Tens, count: usize, terms: [Term; 32]) -> [i64; 4]
+// The exponent of each prime in the factor, ten to the power `k`, and the first `count` terms, in sums that start at 0. The columns are lent.
+pub fn scale(
+    prefixes: &[i8],
+    primes: &[i8],
+    k: Tens,
+    count: usize,
+    exponents: &[i32; 32],
+    names: &[u8; 128],
+    sums: &mut [i64; 4],
+)
     requires { ⌜ (now prefixes ≡ prefix-powers) × ((now primes ≡ unit-primes) × (count ≤ 32)) ⌝ }
-    ensures { λ r. ⌜ ((s : List ℕ) → map exponent r ≡ scale-of k (terms-in s count terms)) ⌝ }
+    requires { ⌜ now sums ≡ zeros 4 ⌝ }
+    ensures { λ _. ⌜ ((s p : List ℕ) → map exponent (now (sums .exit))
+        ≡ scale-of k (terms-in s (lent p (now (exponents .entry))) (now (names .entry)) count)) ⌝ }
 {
     let tens = in_sixtieths(k);
-    let mut sums: [i64; 4] = [tens, 0, tens, 0];
+    sums[0] = tens;
+    sums[2] = tens;
     let mut i = 0;
     while i < count {
-        let t = terms[i];
-        add_primes(prefixes, primes, t, &mut sums);
+        let x = symbol_at(names, i);
+        let e = Exponent(exponents[i]);
+        add_primes(prefixes, primes, x, e, sums);
         i += 1;
     }
-    sums
 }

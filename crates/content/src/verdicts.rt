@@ -1,5 +1,5 @@
 // The three verdicts on the terms of a reading.
-use crate::term::Term;
+use crate::named::symbol_at;
 use scan::class::both;
 use symbols::properties::is_lawful;
 use symbols::properties::is_recommended;
@@ -7,6 +7,7 @@ ghost use mathlib.Core.Path.{_≡_};
 ghost use mathlib.Core.List.{List};
 ghost use Prim.Native.Nat.{ℕ, _≤_};
 ghost use Rattle.symbols.specs.Columns.{unit-prefixed, unit-recommended};
+ghost use Rattle.descent.specs.Terms.{Lent};
 ghost use Rattle.content.specs.Views.{terms-in};
 ghost use Rattle.content.specs.Verdicts.{VerdictsOn};
 
@@ -23,18 +24,17 @@ pub fn verdicts_on(
     recommended: &[bool],
     n: u8,
     count: usize,
-    terms: [Term; 32],
+    names: &[u8; 128],
 ) -> Verdicts
     requires { ⌜ (now prefixed ≡ unit-prefixed) × ((now recommended ≡ unit-recommended) × (count ≤ 32)) ⌝ }
-    ensures { λ r. ⌜ ((s : List ℕ) → VerdictsOn n (terms-in s count terms) r) ⌝ }
+    ensures { λ r. ⌜ ((s : List ℕ) (t : Lent) → VerdictsOn n (terms-in s t (now (names .entry)) count) r) ⌝ }
 {
     let mut all_known = true;
     let mut all_lawful = true;
     let mut all_recommended = true;
     let mut i = 0;
     while i < count {
-        let t = terms[i];
-        let x = t.symbol;
+        let x = symbol_at(names, i);
         all_known = both(all_known, x.known);
         all_lawful = both(all_lawful, is_lawful(prefixed, n, x));
         all_recommended = both(all_recommended, is_recommended(recommended, x));

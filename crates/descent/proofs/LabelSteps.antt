@@ -1,5 +1,5 @@
 -- The whole label: one law for each way through the code.
-use Prim.Native.Nat.{ℕ, _≤_, _<_, _+_}
+use Prim.Native.Nat.{ℕ, zero, suc, _≤_, _<_, _+_, _-_}
 use native.Mathlib.Omega.{arith}
 use mathlib.Core.Path.{_≡_, refl, sym, ap, _∙_}
 use mathlib.Core.Bool.{Bool, true, false, _&&_, not}
@@ -11,22 +11,20 @@ use Rattle.label.specs.declared.Rules.{Rules}
 use Rattle.label.specs.declared.WrittenFactor.{WrittenFactor}
 use Rattle.label.specs.declared.WrittenFactor.the-variants.{Absent}
 use Rattle.label.specs.Bytes.{digit}
-use Rattle.label.specs.Limits.{most-bytes}
 use Rattle.label.specs.Lexical.{no-factor, Part, Kind, item, quotient}
-use Rattle.label.specs.Parse.{Found, factor, Parsed, refused, parsed, ended, one-space, gap, factored, label-by, fuel, read, parse-by}
+use Rattle.label.specs.Parse.{Found, none, found, factor, Parsed, refused, parsed, ended, one-space, gap, factored, label-by, fuel, read, parse-by}
 use Rattle.label.specs.Ranges.{factor-in, FactorInside}
 use Rattle.label.proofs.Basics.{false-true}
 use Rattle.scan.specs.Runs.{Run, is-space}
 use Rattle.scan.proofs.Slices.{here, beyond}
 use Rattle.tokens.specs.declared.factor.FactorAt.{FactorAt}
 use Rattle.tokens.specs.Answers.{ReadsFactorBy}
-use Rattle.descent.specs.declared.terms.Terms.{Terms}
-use Rattle.descent.specs.declared.descent.Step.{Step}
 use Rattle.descent.specs.declared.whole.LabelRead.{LabelRead}
-use Rattle.descent.specs.Terms.{Empty}
-use Rattle.descent.specs.Steps.{Ready, rank, Stepped}
-use Rattle.descent.specs.Labels.{OneSpace, Gaps, Ended, Tells, ReadsFactored, ReadsLabel}
+use Rattle.descent.specs.Terms.{Lent, Empty}
+use Rattle.descent.specs.Steps.{Ready, Stepped}
+use Rattle.descent.specs.Labels.{OneSpace, Gaps, no-label, Ended, Tells, ReadsFactored, ReadsLabel}
 use Rattle.descent.proofs.TermSteps.{holds-none}
+use Rattle.descent.proofs.StepLaws.{rank-most}
 
 -- THE GAP BEHIND A FACTOR
 
@@ -58,55 +56,46 @@ module _ {r : Rules} {s : List ℕ} {at : ℕ} where
 
 -- THE END
 
-abbrev pub no-label : Terms → LabelRead
-no-label t = record { ok = false; factor = Absent; terms = t }
-
-module _ {s : List ℕ} {f : WrittenFactor} {p : Step} where
-  pub ended₁ : not (p .ok) ≡ true → Ended s f p (no-label (p .terms))
+module _ {s : List ℕ} {f : WrittenFactor} {p : ℕ} where
+  pub ended₁ : {o : LabelRead} → o ≡ no-label → p ≤ length s → Ended s f p o
   unfolding ended
-  ended₁ e = record { is = λ ps. rw (not-true (p .ok) e); good = λ x. absurd (false-true x); inside = λ i. tt }
+  ended₁ e h = rw e (record { is = λ x ps. go p h x; good = λ y. absurd (false-true y); inside = λ i. tt })
+    where
+      go : (q : ℕ) → q ≤ length s → (x : Found (List Part)) {ps : List Part} → (q ≡ 0 → x ≡ none) → (0 < q → x ≡ found ps (drop (q - 1) s)) → ended (factor-in s f) x ≡ refused
+      go zero l x m n = rw (m refl)
+      go (suc q) l x m n = rw (n (omega arith), here s (suc q - 1) (omega arith))
 
-  pub ended₂ : not (p .ok) ≡ false → length s ≤ p .next → Ended s f p (record { ok = true; factor = f; terms = p .terms })
+  pub ended₂ : length s < p → Ended s f p (record { ok = true; factor = f })
   unfolding ended
-  ended₂ e g = record { is = λ ps. rw (not-false (p .ok) e, beyond s (p .next) g); good = λ x. (not-false (p .ok) e, refl); inside = λ i. i }
-
-  pub ended₃ : not (p .ok) ≡ false → p .next < length s → Ended s f p (no-label (p .terms))
-  unfolding ended
-  ended₃ e g = record { is = λ ps. rw (not-false (p .ok) e, here s (p .next) g); good = λ x. absurd (false-true x); inside = λ i. tt }
+  ended₂ h = record { is = λ x ps m n. rw (n (omega arith), beyond s (p - 1) (omega arith)); good = λ _. omega arith; inside = λ i. i }
 
 -- A READING THAT ENDS THE LABEL
 
-pub ready-first : {s : List ℕ} {at : ℕ} {t : Terms} → Empty t → length s ≤ most-bytes → at ≤ length s → Ready s at t
-ready-first w h g = record { short = h; within = g; few = omega (arith, w .count) }
+pub ready-first : {s : List ℕ} {at : ℕ} {t : Lent} → Empty t → at ≤ length s → Ready s at t
+ready-first w g = record { within = g; few = omega (arith, w .counts); room = w .room }
 
-rank-most : (x : Kind) → rank x ≤ 2
-rank-most item = omega arith
-rank-most Kind.more = omega arith
-rank-most Kind.product = omega arith
-rank-most quotient = omega arith
-
--- from an empty list of terms, the terms read are the label's
-tells-ended : (x : Kind) (r : Rules) (b : Bool) (s : List ℕ) (at : ℕ) (t : Terms) (f : WrittenFactor) (p : Step) (o : LabelRead) (y : Parsed)
-    → Empty t → FactorInside s f → Stepped x r b s at t p → Ended s f p o → y ≡ ended (factor-in s f) (read r (fuel s) x b (drop at s)) → Tells y s o
-tells-ended x r b s at t f p o y w i a v e = record {
+-- from no term on, the terms read are the label's
+tells-ended : (x : Kind) (r : Rules) (b : Bool) (s : List ℕ) (at : ℕ) (t u : Lent) (f : WrittenFactor) (p : ℕ) (o : LabelRead) (y : Parsed)
+    → Empty t → FactorInside s f → Stepped x r b s at t u p → Ended s f p o → y ≡ ended (factor-in s f) (read r (fuel s) x b (drop at s)) → Tells y s u o
+tells-ended x r b s at t u f p o y w i a v e = record {
   parts = a .reads .parts;
-  is = e ∙ ap (ended (factor-in s f)) (a .reads .is (fuel s) (omega (arith, rank-most x))) ∙ v .is (a .reads .parts);
-  holds = λ z. let g = v .good z in rw (g .1) (a .reads .keeps (g .0) [] (holds-none w s));
+  is = e ∙ v .is (read r (fuel s) x b (drop at s)) (a .reads .parts) (λ q. a .reads .misses q (fuel s) (omega (arith, rank-most x))) (λ q. a .reads .is q (fuel s) (omega (arith, rank-most x)));
+  holds = λ z. a .reads .keeps (v .good z) [] (holds-none w s);
   inside = v .inside i;
 }
 
 -- LABELS WITH A FACTOR
 
 module _ {r : Rules} {s : List ℕ} {f : FactorAt} (w : ReadsFactorBy r s 0 f) where
-  pub factored₁ : {t : Terms} → not (f .ok) ≡ true → ReadsFactored r s (no-label t)
+  pub factored₁ : {t : Lent} {o : LabelRead} → o ≡ no-label → not (f .ok) ≡ true → ReadsFactored r s t o
   unfolding factored
-  factored₁ e = record { tells = record { parts = []; is = rw (w .reads .is, not-true (f .ok) e); holds = λ x. absurd (false-true x); inside = tt } }
+  factored₁ q e = rw q (record { tells = record { parts = []; is = rw (w .reads .is, not-true (f .ok) e); holds = λ x. absurd (false-true x); inside = tt } })
 
-  pub factored₂ : {n : ℕ} {t : Terms} {p : Step} {o : LabelRead} → not (f .ok) ≡ false → Gaps r s (f .next) n → Empty t → Stepped quotient r false s n t p
-      → Ended s (f .factor) p o → ReadsFactored r s o
+  pub factored₂ : {n p : ℕ} {t u : Lent} {o : LabelRead} → not (f .ok) ≡ false → Gaps r s (f .next) n → Empty t → Stepped quotient r false s n t u p
+      → Ended s (f .factor) p o → ReadsFactored r s u o
   unfolding factored
-  factored₂ {n} {t} {p} {o} e g y a v = record {
-    tells = tells-ended quotient r false s n t (f .factor) p o _ y (w .reads .inside) a v
+  factored₂ {n} {p} {t} {u} {o} e g y a v = record {
+    tells = tells-ended quotient r false s n t u (f .factor) p o _ y (w .reads .inside) a v
         (ap (factored (λ u. read r (fuel s) quotient false u) r) (w .reads .is) ∙ (rw (not-false (f .ok) e, g .rest)));
   }
 
@@ -140,17 +129,17 @@ module _ (r : Rules) (f g : List ℕ → Found (List Part)) where
   by-rest (c ∷ u) h n e q = rw (ne-eqb c 32 n, e, q)
 
 module _ {r : Rules} {s : List ℕ} where
-  pub label₁ : {t : Terms} → length s ≡ 0 → Empty t → ReadsLabel r s (record { ok = true; factor = Absent; terms = t })
+  pub label₁ : {t : Lent} → length s ≡ 0 → Empty t → ReadsLabel r s t (record { ok = true; factor = Absent })
   unfolding parse-by
   label₁ h w = record { tells = record { parts = []; is = by-nothing r _ _ s h; holds = λ _. holds-none w s; inside = tt } }
 
   module _ (h : length s ≡ 0 → ⊥) where
-    pub label₂ : {t : Terms} → getD s 0 0 ≡ 32 → ReadsLabel r s (no-label t)
+    pub label₂ : {t : Lent} {o : LabelRead} → getD s 0 0 ≡ 32 → o ≡ no-label → ReadsLabel r s t o
     unfolding parse-by
-    label₂ e = record { tells = record { parts = []; is = by-space r _ _ s (omega arith) e; holds = λ x. absurd (false-true x); inside = tt } }
+    label₂ e q = rw q (record { tells = record { parts = []; is = by-space r _ _ s (omega arith) e; holds = λ x. absurd (false-true x); inside = tt } })
 
     module _ (n : getD s 0 0 ≡ 32 → ⊥) {x : Bool} (d : x ≡ digit (getD s 0 0)) where
-      pub label₃ : {o : LabelRead} → x ≡ true → ReadsFactored r s o → ReadsLabel r s o
+      pub label₃ : {t : Lent} {o : LabelRead} → x ≡ true → ReadsFactored r s t o → ReadsLabel r s t o
       unfolding parse-by
       label₃ e w = record {
         tells = record {
@@ -162,10 +151,10 @@ module _ {r : Rules} {s : List ℕ} where
       }
 
       module _ (e : x ≡ false) {y : Bool} (q : y ≡ (eqb (getD s 0 0) 47 && r .lead)) where
-        pub label₄ : {t : Terms} {p : Step} {o : LabelRead} → y ≡ true → Empty t → Stepped item r true s 1 t p → Ended s Absent p o → ReadsLabel r s o
+        pub label₄ : {t u : Lent} {p : ℕ} {o : LabelRead} → y ≡ true → Empty t → Stepped item r true s 1 t u p → Ended s Absent p o → ReadsLabel r s u o
         unfolding parse-by
-        label₄ {t} {p} {o} z w a v = record { tells = tells-ended item r true s 1 t Absent p o _ w tt a v (by-slash r _ _ s (omega arith) n (sym d ∙ e) (sym q ∙ z)) }
+        label₄ {t} {u} {p} {o} z w a v = record { tells = tells-ended item r true s 1 t u Absent p o _ w tt a v (by-slash r _ _ s (omega arith) n (sym d ∙ e) (sym q ∙ z)) }
 
-        pub label₅ : {t : Terms} {p : Step} {o : LabelRead} → y ≡ false → Empty t → Stepped quotient r false s 0 t p → Ended s Absent p o → ReadsLabel r s o
+        pub label₅ : {t u : Lent} {p : ℕ} {o : LabelRead} → y ≡ false → Empty t → Stepped quotient r false s 0 t u p → Ended s Absent p o → ReadsLabel r s u o
         unfolding parse-by
-        label₅ {t} {p} {o} z w a v = record { tells = tells-ended quotient r false s 0 t Absent p o _ w tt a v (by-rest r _ _ s (omega arith) n (sym d ∙ e) (sym q ∙ z)) }
+        label₅ {t} {u} {p} {o} z w a v = record { tells = tells-ended quotient r false s 0 t u Absent p o _ w tt a v (by-rest r _ _ s (omega arith) n (sym d ∙ e) (sym q ∙ z)) }

@@ -1,19 +1,19 @@
 -- The steps of the descent: one law for each way through the code.
-use Prim.Native.Nat.{ℕ, zero, suc, _≤_, _<_, _+_}
+use Prim.Native.Nat.{ℕ, zero, suc, _≤_, _<_, _+_, _-_}
 use native.Mathlib.Omega.{arith}
 use mathlib.Core.Path.{_≡_, refl, sym, ap, _∙_}
 use mathlib.Core.Bool.{Bool, true, false, _&&_, not}
 use mathlib.Core.List.{List, [], _∷_, _++_, append-assoc, append-nil}
-use lib.Dec.{eqb}
+use lib.IntN.{ℤ}
 use lib.ListN.{length, drop, getD, length-drop}
 use borrow.Author.Tests.{ne-eqb, not-true, not-false}
 use Rattle.label.specs.declared.Rules.{Rules}
+use Rattle.label.specs.Choice.{pick}
 use Rattle.label.specs.Lexical.{Part, Kind, item, more, product, quotient}
 use Rattle.label.specs.Limits.{exponent-of}
-use Rattle.label.specs.Parse.{Found, none, found, then, mapped, closed, spelling, exponent, unit, appended, chained, item-at, item-by, more-at, product-at, quotient-on, inside, read}
+use Rattle.label.specs.Parse.{Found, none, found, then, mapped, closed, unit, appended, chained, item-at, item-by, more-at, product-at, quotient-on, inside, read}
 use Rattle.label.specs.Ranges.{between, written-in}
 use Rattle.label.proofs.Basics.{false-true}
-use Rattle.scan.specs.Founds.{found-by}
 use Rattle.scan.specs.Spellings.{Spelled}
 use Rattle.scan.specs.declared.spelling.Spelling.{Spelling}
 use Rattle.scan.proofs.Slices.{here, beyond}
@@ -22,323 +22,335 @@ use Rattle.tokens.specs.Answers.{begins, ReadsExponent}
 use Rattle.tokens.proofs.PowerSteps.{byte-no-close, begins-room, close-found}
 use Rattle.values.specs.declared.powers.MaybeExponent.{MaybeExponent}
 use Rattle.values.specs.Given.{given}
-use Rattle.descent.specs.declared.terms.Terms.{Terms}
 use Rattle.descent.specs.declared.joint.Joint.{Joint as Joined}
-use Rattle.descent.specs.declared.joint.Joint.the-variants.{Stop, Times, Over}
 use Rattle.descent.specs.declared.joint.Leading.{Leading}
-use Rattle.descent.specs.declared.descent.Step.{Step}
-use Rattle.descent.specs.Terms.{Pushed}
-use Rattle.descent.specs.Joints.{Joins, Leads}
-use Rattle.descent.specs.Steps.{Ready, Reads, rank, least, fuel-at, Stepped, Chained, ReadsUnit, Closed}
+use Rattle.descent.specs.Terms.{Lent, Kept}
+use Rattle.descent.specs.Joints.{turned-by, joint-by, Joins, leading-by, Leads, slashed, Slashes}
+use Rattle.descent.specs.Steps.{Ready, Reads, rank, least, fuel-at, kind, Stepped, Chained, Grouped, ReadsUnit}
 use Rattle.descent.proofs.TermSteps.{holds-more}
 
 -- READINGS
 
--- nothing is read
-pub nothing-read : (f : ℕ → List ℕ → Found (List Part)) (need least : ℕ) (s : List ℕ) (at : ℕ) (t : Terms) (o : Step)
-    → o .ok ≡ false → o .next ≤ length s → ((k : ℕ) → need < k → f k (drop at s) ≡ none) → Reads f need least s at t o
-nothing-read f need least s at t o e l h = record {
-  parts = [];
-  is = λ k g. h k g ∙ (rw e);
-  within = l;
-  ahead = λ x. absurd (false-true (sym e ∙ x));
-  few = λ x. absurd (false-true (sym e ∙ x));
-  keeps = λ x. absurd (false-true (sym e ∙ x));
-}
+module _ {f : ℕ → List ℕ → Found (List Part)} {need least : ℕ} {s : List ℕ} {at : ℕ} {t : Lent} where
+  -- nothing is read
+  nothing-read : {u : Lent} → ((k : ℕ) → need < k → f k (drop at s) ≡ none) → Reads f need least s at t u 0
+  nothing-read h = record {
+    parts = [];
+    misses = λ _. h;
+    is = λ x. absurd (omega arith);
+    ahead = λ x. absurd (omega arith);
+    ready = λ x. absurd (omega arith);
+    keeps = λ x. absurd (omega arith);
+  }
 
--- what is read at one place for what is read at another
-same-read : (f g : ℕ → List ℕ → Found (List Part)) (need least need' least' : ℕ) (s : List ℕ) (at at' : ℕ) (t : Terms) (o : Step)
-    → at + least ≤ at' + least' → ((k : ℕ) → need < k → (j : ℕ) × (need' < j) × (f k (drop at s) ≡ g j (drop at' s)))
-    → Reads g need' least' s at' t o → Reads f need least s at t o
-same-read f g need least need' least' s at at' t o le same a = record {
-  parts = a .parts;
-  is = λ k h. let q = same k h in q .2 ∙ a .is (q .0) (q .1);
-  within = a .within;
-  ahead = λ x. omega (arith, a .ahead x);
-  few = a .few;
-  keeps = a .keeps;
-}
+  -- what g reads at another place
+  same-read : {g : ℕ → List ℕ → Found (List Part)} {need' least' at' : ℕ} {u : Lent} {o : ℕ} → at + least ≤ at' + least'
+      → ((k : ℕ) → need < k → (j : ℕ) × (need' < j) × (f k (drop at s) ≡ g j (drop at' s))) → Reads g need' least' s at' t u o → Reads f need least s at t u o
+  same-read le same a = record {
+    parts = a .parts;
+    misses = λ e k h. let q = same k h in q .2 ∙ a .misses e (q .0) (q .1);
+    is = λ x k h. let q = same k h in q .2 ∙ a .is x (q .0) (q .1);
+    ahead = λ x. omega (arith, a .ahead x);
+    ready = a .ready;
+    keeps = a .keeps;
+  }
 
-appended-by : (ps : List Part) (b : Bool) (qs : List Part) (t : List ℕ) → appended ps (found-by b qs t) ≡ found-by b (ps ++ qs) t
-unfolding appended mapped
-appended-by ps true qs t = refl
-appended-by ps false qs t = refl
+  module _ {g : ℕ → List ℕ → Found (List Part)} {need' least' : ℕ} {u : Lent} {i : ℕ} (a : Reads g need' least' s at t u i) (y : 0 < i) where
+    -- just what g reads
+    more-read : at + least ≤ at + least' → ((k : ℕ) → need < k → f k (drop at s) ≡ found (a .parts) (drop (i - 1) s)) → Reads f need least s at t u i
+    more-read le same = record {
+      parts = a .parts;
+      misses = λ e. absurd (omega arith);
+      is = λ _. same;
+      ahead = λ x. omega (arith, a .ahead x);
+      ready = a .ready;
+      keeps = a .keeps;
+    }
+
+    -- what g reads, then what h reads behind it
+    then-read : {h : ℕ → List ℕ → Found (List Part)} {need'' least'' at' : ℕ} {v : Lent} {o : ℕ} → at + least ≤ at' + least''
+        → ((k : ℕ) → need < k → (j : ℕ) × (need'' < j) × (f k (drop at s) ≡ appended (a .parts) (h j (drop at' s)))) → Reads h need'' least'' s at' u v o
+        → Reads f need least s at t v o
+    unfolding appended mapped
+    then-read le same b = record {
+      parts = a .parts ++ b .parts;
+      misses = λ x k z. let q = same k z in q .2 ∙ ap (appended (a .parts)) (b .misses x (q .0) (q .1));
+      is = λ x k z. let q = same k z in q .2 ∙ ap (appended (a .parts)) (b .is x (q .0) (q .1));
+      ahead = λ x. omega (arith, b .ahead x);
+      ready = b .ready;
+      keeps = λ x ps z. rw (append-assoc ps (a .parts) (b .parts)) at (b .keeps x (ps ++ a .parts) (a .keeps y ps z));
+    }
+
+-- fuel above a bound is not zero
+above : {need : ℕ} (P : ℕ → Type 0) → ((k : ℕ) → need ≤ k → P (suc k)) → (k : ℕ) → need < k → P k
+above P f zero h = absurd (omega arith)
+above P f (suc k) h = f k (omega arith)
 
 -- UNITS
 
-module _ {r : Rules} {b : Bool} {s : List ℕ} {at : ℕ} {t : Terms} {w : Spelling} where
-  pub unit₁ : Spelled r s at w → not (w .ok) ≡ true → ReadsUnit r b s at t (record { ok = false; next = w .end; terms = t })
+module _ {r : Rules} {b : Bool} {s : List ℕ} {at : ℕ} {t : Lent} {w : Spelling} where
+  pub unit₁ : Spelled r s at w → not (w .ok) ≡ true → ReadsUnit r b s at t t 0
   unfolding unit then
-  unit₁ v e = record { reads = nothing-read _ 0 1 s at t _ refl (v .within) (λ k h. rw (v .is, not-true (w .ok) e)) }
+  unit₁ v e = record { reads = nothing-read (λ k h. rw (v .is, not-true (w .ok) e)) }
 
   module _ {p : PowerAt} (v : Spelled r s at w) (e : not (w .ok) ≡ false) (q : ReadsExponent r s (w .end) p) where
-    pub unit₂ : not (p .ok) ≡ true → ReadsUnit r b s at t (record { ok = false; next = p .next; terms = t })
+    pub unit₂ : not (p .ok) ≡ true → ReadsUnit r b s at t t 0
     unfolding unit then mapped
-    unit₂ f = record { reads = nothing-read _ 0 1 s at t _ refl (q .reads .within) (λ k h. rw (v .is, not-false (w .ok) e, q .reads .is, not-true (p .ok) f)) }
+    unit₂ f = record { reads = nothing-read (λ k h. rw (v .is, not-false (w .ok) e, q .reads .is, not-true (p .ok) f)) }
 
-    pub unit₃ : {m : MaybeExponent} {u : Terms} → Ready s at t → not (p .ok) ≡ false
+    pub unit₃ : {m : MaybeExponent} {z : ℤ} {u : Lent} → Ready s at t → not (p .ok) ≡ false
         → given (m .ok) (m .exponent) ≡ exponent-of b (written-in s (p .power))
-        → Pushed t (record { start = at; end = w .end; exponent = m .exponent }) (m .ok) u
-        → ReadsUnit r b s at t (record { ok = true; next = p .next; terms = u })
+        → Kept t at (w .end) z (m .ok) u → z ≡ m .exponent .0 → ReadsUnit r b s at t u (p .next + 1)
     unfolding unit then mapped
-    unit₃ {m} {u} g f x y = record {
-      reads = record {
-        parts = part ∷ [];
-        is = λ k h. rw (v .is, not-false (w .ok) e, q .reads .is, not-false (p .ok) f);
-        within = q .reads .within;
-        ahead = λ _. omega (arith, v .ahead (not-false (w .ok) e), q .reads .ahead);
-        few = λ _. omega (arith, y .count, g .few, v .ahead (not-false (w .ok) e), q .reads .ahead);
-        keeps = λ _ ps h. holds-more s part x (rw (← length-drop at s)) y (record { forward = omega (arith, v .ahead (not-false (w .ok) e)); within = v .within }) ps h;
-      };
-    }
+    unit₃ {m} {z} {u} g f x y' i =
+        let y : Kept t at (w .end) (m .exponent .0) (m .ok) u = rw i at y' in
+        let far = v .ahead (not-false (w .ok) e) in
+        let back : p .next + 1 - 1 ≡ p .next = omega arith in
+        record {
+          reads = record {
+            parts = part ∷ [];
+            misses = λ z. absurd (omega arith);
+            is = λ z k h. rw (v .is, not-false (w .ok) e, q .reads .is, not-false (p .ok) f, back);
+            ahead = λ _. omega (arith, q .reads .ahead);
+            ready = λ _. record { within = omega (arith, q .reads .within); few = omega (arith, y .counted, g .few, q .reads .ahead); room = y .room };
+            keeps = λ _ ps h. holds-more s part x (rw (← length-drop at s)) y (record { forward = omega arith; within = v .within }) ps h;
+          };
+        }
       where
         part : Part
         part = record { spelling = between s at (w .end); power = written-in s (p .power); turned = b; left = length (drop at s) }
 
--- THE BRACKET THAT CLOSES
+-- GROUPS
 
-module _ {s : List ℕ} {p : Step} where
-  pub closed₁ : not (p .ok) ≡ true → p .next ≤ length s → Closed s p p
-  unfolding closed then
-  closed₁ e l = record { is = λ ps. rw (not-true (p .ok) e); within = l; good = λ x. absurd (false-true (sym (not-true (p .ok) e) ∙ x)) }
-
-  pub closed₂ : {b : Bool} → not (p .ok) ≡ false → b ≡ begins 41 (drop (p .next) s) → b ≡ true → Closed s p (record { ok = true; next = p .next + 1; terms = p .terms })
-  unfolding closed then
-  closed₂ e q t = record {
-    is = λ ps. rw (not-false (p .ok) e) (close-found s (p .next) ps (sym q ∙ t));
-    within = omega (arith, begins-room s (p .next) (sym q ∙ t));
-    good = λ _. (not-false (p .ok) e, refl, refl);
-  }
-
-  pub closed₃ : {b : Bool} → not (p .ok) ≡ false → p .next ≤ length s → b ≡ begins 41 (drop (p .next) s) → b ≡ false → Closed s p (record { ok = false; next = p .next; terms = p .terms })
-  unfolding closed then
-  closed₃ e l q t = record {
-    is = λ ps. rw (not-false (p .ok) e) (byte-no-close ps (drop (p .next) s) (sym q ∙ t));
-    within = l;
-    good = λ x. absurd (false-true x);
-  }
-
--- ITEMS
-
-item-open : (r : Rules) (b : Bool) (s : List ℕ) (at k : ℕ) → at < length s → getD s at 0 ≡ 40
-    → read r (suc k) item b (drop at s) ≡ closed (λ ps. ps) (read r k (inside r) b (drop (at + 1) s))
-unfolding read item-by item-at
-item-open r b s at k h e = rw (here s at h, e)
-
-item-other : (r : Rules) (b : Bool) (s : List ℕ) (at k : ℕ) → at < length s → (getD s at 0 ≡ 40 → ⊥) → read r (suc k) item b (drop at s) ≡ unit r b (drop at s)
-unfolding read item-by item-at
-item-other r b s at k h e = rw (here s at h, ne-eqb _ _ e)
-
-rank-most : (x : Kind) → rank x ≤ 2
+pub rank-most : (x : Kind) → rank x ≤ 2
 rank-most item = omega arith
 rank-most more = omega arith
 rank-most product = omega arith
 rank-most quotient = omega arith
 
-module _ {r : Rules} {b : Bool} {s : List ℕ} {at : ℕ} {t : Terms} where
-  pub item₁ : at ≤ length s → length s ≤ at → Stepped item r b s at t (record { ok = false; next = at; terms = t })
+inside-is : (r : Rules) → inside r ≡ kind (r .within)
+inside-is r = go (r .within)
+  where
+    go : (b : Bool) → pick b quotient product ≡ kind b
+    go true = refl
+    go false = refl
+
+one-least : (b : Bool) → least (kind b) ≡ 1
+one-least true = refl
+one-least false = refl
+
+module _ {r : Rules} {b : Bool} {s : List ℕ} {at : ℕ} {t u : Lent} {p : ℕ} (a : Stepped (kind (r .within)) r b s at t u p) where
+  -- what the group holds is x
+  inside-read : {x : Found (List Part)} (k : ℕ) → read r k (kind (r .within)) b (drop at s) ≡ x → closed (λ ps. ps) (read r k (inside r) b (drop at s)) ≡ closed (λ ps. ps) x
+  inside-read k e = rw (inside-is r, e)
+
+  pub group₁ : p ≡ 0 → Grouped r b s at t u 0
+  unfolding closed then
+  group₁ e = record { reads = nothing-read (λ k h. inside-read k (a .reads .misses e k (omega (arith, rank-most (kind (r .within)))))) }
+
+  module _ {x : Bool} (e : p ≡ 0 → ⊥) (q : x ≡ begins 41 (drop (p - 1) s)) where
+    inside-found : (k : ℕ) → fuel-at s at + 2 < k → closed (λ ps. ps) (read r k (inside r) b (drop at s)) ≡ closed (λ (ps : List Part). ps) (found (a .reads .parts) (drop (p - 1) s))
+    inside-found k h = inside-read k (a .reads .is (omega arith) k (omega (arith, rank-most (kind (r .within)))))
+
+    pub group₂ : x ≡ true → Grouped r b s at t u (p + 1)
+    unfolding closed then
+    group₂ y =
+        let there : p - 1 + 1 ≡ p + 1 - 1 = omega arith in
+        let w = a .reads .ready (omega arith) in
+        record {
+          reads = record {
+            parts = a .reads .parts;
+            misses = λ z. absurd (omega arith);
+            is = λ z k h. inside-found k h ∙ close-found s (p - 1) (a .reads .parts) (sym q ∙ y) ∙ ap (λ (n : ℕ). found (a .reads .parts) (drop n s)) there;
+            ahead = λ z. omega (arith, a .reads .ahead (omega arith), one-least (r .within));
+            ready = λ z. record { within = omega (arith, begins-room s (p - 1) (sym q ∙ y)); few = omega (arith, w .few); room = w .room };
+            keeps = λ z. a .reads .keeps (omega arith);
+          };
+        }
+
+    pub group₃ : x ≡ false → Grouped r b s at t u 0
+    unfolding closed then
+    group₃ y = record { reads = nothing-read (λ k h. inside-found k h ∙ byte-no-close (a .reads .parts) (drop (p - 1) s) (sym q ∙ y)) }
+
+-- ITEMS
+
+module _ {r : Rules} {b : Bool} {s : List ℕ} {at : ℕ} {t : Lent} where
+  pub item₁ : length s ≤ at → Stepped item r b s at t t 0
   unfolding read item-by
-  item₁ l g = record { reads = nothing-read _ _ 1 s at t _ refl l go }
-    where
-      go : (k : ℕ) → fuel-at s at + 0 < k → read r k item b (drop at s) ≡ none
-      go zero h = absurd (omega arith)
-      go (suc k) h = rw (beyond s at g)
+  item₁ g = record { reads = nothing-read (above _ (λ k h. rw (beyond s at g))) }
 
-  -- a group, whatever kind its inside is
-  group : (x : Kind) {p o : Step} → inside r ≡ x → at < length s → getD s at 0 ≡ 40 → Stepped x r b s (at + 1) t p → Closed s p o → Stepped item r b s at t o
-  group x {p} {o} i l e a w = record {
-    reads = record {
-      parts = a .reads .parts;
-      is = go;
-      within = w .within;
-      ahead = λ y. let g = w .good y in omega (arith, a .reads .ahead (g .0), g .1);
-      few = λ y. let g = w .good y in rw (g .2) (omega (arith, a .reads .few (g .0), g .1));
-      keeps = λ y. let g = w .good y in rw (g .2) (a .reads .keeps (g .0));
-    };
-  }
-    where
-      go : (k : ℕ) → fuel-at s at + 0 < k → read r k item b (drop at s) ≡ found-by (o .ok) (a .reads .parts) (drop (o .next) s)
-      go zero h = absurd (omega arith)
-      go (suc k) h = item-open r b s at k l e ∙ ap (λ (y : Kind). closed (λ (ps : List Part). ps) (read r k y b (drop (at + 1) s))) i
-          ∙ ap (closed (λ (ps : List Part). ps)) (a .reads .is k (omega (arith, rank-most x))) ∙ w .is (a .reads .parts)
+  module _ {u : Lent} {o : ℕ} (l : at < length s) where
+    pub item₂ : getD s at 0 ≡ 40 → Grouped r b s (at + 1) t u o → Stepped item r b s at t u o
+    unfolding read item-by item-at
+    item₂ e a = record { reads = same-read (omega arith) (above _ (λ k h. (k, omega arith, rw (here s at l, e)))) (a .reads) }
 
-  pub item₂ : {p o : Step} → at < length s → getD s at 0 ≡ 40 → r .within ≡ true → Stepped quotient r b s (at + 1) t p → Closed s p o → Stepped item r b s at t o
-  item₂ l e f a w = group quotient (rw f) l e a w
+    pub item₃ : (getD s at 0 ≡ 40 → ⊥) → ReadsUnit r b s at t u o → Stepped item r b s at t u o
+    unfolding read item-by item-at
+    item₃ e a = record { reads = same-read (omega arith) (above _ (λ k h. (1, omega arith, rw (here s at l, ne-eqb _ _ e)))) (a .reads) }
 
-  pub item₃ : {p o : Step} → at < length s → getD s at 0 ≡ 40 → r .within ≡ false → Stepped product r b s (at + 1) t p → Closed s p o → Stepped item r b s at t o
-  item₃ l e f a w = group product (rw f) l e a w
-
-  pub item₄ : {o : Step} → at < length s → (getD s at 0 ≡ 40 → ⊥) → ReadsUnit r b s at t o → Stepped item r b s at t o
-  item₄ {o} l e a = record { reads = same-read _ _ _ 1 0 1 s at at t o (omega arith) go (a .reads) }
-    where
-      go : (k : ℕ) → fuel-at s at + 0 < k → (j : ℕ) × (0 < j) × (read r k item b (drop at s) ≡ unit r b (drop at s))
-      go zero h = absurd (omega arith)
-      go (suc k) h = (1, omega arith, item-other r b s at k l e)
-
--- AN ITEM AND WHAT FOLLOWS IT
-
-module _ {r : Rules} {d b : Bool} {s : List ℕ} {at : ℕ} {t : Terms} {i : Step} (a : Stepped item r d s at t i) where
-  pub chain₁ : not (i .ok) ≡ true → Chained r d b s at t i
-  unfolding chained then
-  chain₁ e = record {
-    reads = nothing-read _ _ 1 s at t i (not-true (i .ok) e) (a .reads .within)
-        (λ k h. rw (a .reads .is k (omega arith), not-true (i .ok) e));
-  }
-
-  pub chain₂ : {o : Step} → not (i .ok) ≡ false → Stepped more r b s (i .next) (i .terms) o → Chained r d b s at t o
-  unfolding chained then
-  chain₂ {o} e m =
-      let y = not-false (i .ok) e in
-      let l = a .reads .ahead y in
-      record {
-        reads = record {
-          parts = a .reads .parts ++ m .reads .parts;
-          is = λ k h. rw (a .reads .is k (omega arith), y, m .reads .is k (omega (arith, a .reads .within)))
-              (appended-by (a .reads .parts) (o .ok) (m .reads .parts) (drop (o .next) s));
-          within = m .reads .within;
-          ahead = λ x. omega (arith, m .reads .ahead x);
-          few = m .reads .few;
-          keeps = λ x ps h. rw (append-assoc ps (a .reads .parts) (m .reads .parts)) at (m .reads .keeps x (ps ++ a .reads .parts) (a .reads .keeps y ps h));
-        };
-      }
+pub ready-on : {s : List ℕ} {at : ℕ} {t : Lent} → Ready s at t → at < length s → Ready s (at + 1) t
+ready-on w h = record { within = omega arith; few = omega (arith, w .few); room = w .room }
 
 -- WHAT FOLLOWS AN ITEM
 
-module _ {r : Rules} {s : List ℕ} {at n : ℕ} {j : Joined} (v : Joins r s at j) where
-  pub times-after : j ≡ Times n → (at < n) × (n ≤ length s)
-  times-after e = (rw e at v) .after
+abbrev one-by-one : Rules → Bool → Bool → ℕ → List ℕ → Found (List Part)
+one-by-one r d b k v = chained (read r k item d v) (λ w. read r k more b w)
 
-  pub over-after : j ≡ Over n → (at < n) × (n ≤ length s)
-  over-after e = (rw e at v) .after
+more-next : (r : Rules) (b : Bool) (s : List ℕ) (at : ℕ) (j : Joined) (k : ℕ) → Joins r s at j → j .found ≡ true
+    → read r (suc k) more b (drop at s) ≡ one-by-one r (turned-by (j .over) b) b k (drop (j .next) s)
+unfolding read more-at
+more-next r b s at j k w e = rw (w .tied .is, e) (go (j .over))
+  where
+    go : (v : Bool) → more-at (joint-by true v (drop (j .next) s)) b (λ d u. read r k item d u) (λ d u. read r k more d u) (drop at s)
+        ≡ one-by-one r (turned-by v b) b k (drop (j .next) s)
+    go true = refl
+    go false = refl
 
-module _ {r : Rules} {b : Bool} {s : List ℕ} {at : ℕ} {t : Terms} where
-  pub more₁ : {j : Joined} → Ready s at t → Joins r s at j → j ≡ Stop → Stepped more r b s at t (record { ok = true; next = at; terms = t })
-  unfolding read more-at
-  more₁ w j e = record {
-    reads = record {
-      parts = [];
-      is = go;
-      within = w .within;
-      ahead = λ _. omega arith;
-      few = λ _. w .few;
-      keeps = λ _ ps h. rw (append-nil ps) h;
-    };
-  }
+product-next : (r : Rules) (b : Bool) (s : List ℕ) (at : ℕ) (l : Leading) (k : ℕ) → Leads r s at l
+    → read r (suc k) product b (drop at s) ≡ one-by-one r (turned-by (l .found) b) b k (drop (l .next) s)
+unfolding read product-at
+product-next r b s at l k w = rw (w .is) (go (l .found) refl)
+  where
+    go : (v : Bool) → l .found ≡ v → product-at (leading-by v (drop (l .next) s)) b (λ d u. read r k item d u) (λ d u. read r k more d u) (drop at s)
+        ≡ one-by-one r (turned-by v b) b k (drop (l .next) s)
+    go true e = refl
+    go false e = ap (λ (n : ℕ). one-by-one r b b k (drop n s)) (sym (w .stays e))
+
+-- an item, then what follows it
+chain-next : (r : Rules) (d b : Bool) (s : List ℕ) (at n k : ℕ) (ps : List Part) → read r k item d (drop at s) ≡ found ps (drop n s)
+    → one-by-one r d b k (drop at s) ≡ appended ps (read r k more b (drop n s))
+unfolding chained then
+chain-next r d b s at n k ps e = rw e
+
+chain-none : (r : Rules) (d b : Bool) (s : List ℕ) (at k : ℕ) → read r k item d (drop at s) ≡ none → one-by-one r d b k (drop at s) ≡ none
+unfolding chained then
+chain-none r d b s at k e = rw e
+
+more-none : (r : Rules) (b : Bool) (s : List ℕ) (at : ℕ) (j : Joined) (k : ℕ) (ps : List Part) → Joins r s at j → j .found ≡ false
+    → appended ps (read r (suc k) more b (drop at s)) ≡ found ps (drop at s)
+unfolding read more-at appended mapped
+more-none r b s at j k ps w e = rw (w .tied .is, e, append-nil ps)
+
+-- THE LAST SLASH
+
+slashed-room : (r : Rules) (s : List ℕ) → slashed r s ≡ true → 0 < length s
+unfolding slashed
+slashed-room r [] e = absurd (false-true e)
+slashed-room r (c ∷ s) e = omega arith
+
+module _ {r : Rules} {over x : Bool} {s : List ℕ} {at : ℕ} (w : Slashes r over s at x) (e : x ≡ true) where
+  over-slash : over ≡ true
+  over-slash = go over (sym (w .is) ∙ e)
     where
-      go : (k : ℕ) → fuel-at s at + 0 < k → read r k more b (drop at s) ≡ found [] (drop at s)
-      go zero h = absurd (omega arith)
-      go (suc k) h = rw (j .is, e)
+      go : (y : Bool) → (y && slashed r (drop at s)) ≡ true → y ≡ true
+      go true q = refl
+      go false q = absurd (false-true q)
 
-  module _ {j : Joined} {n : ℕ} (v : Joins r s at j) where
-    pub more₂ : {o : Step} → j ≡ Times n → Chained r b b s n t o → Stepped more r b s at t o
-    unfolding read more-at
-    more₂ {o} e a = let l = times-after v e in record { reads = same-read _ _ _ 0 _ 1 s at n t o (omega arith) (go l) (a .reads) }
-      where
-        go : (at < n) × (n ≤ length s) → (k : ℕ) → fuel-at s at + 0 < k
-            → (i : ℕ) × (fuel-at s n < i) × (read r k more b (drop at s) ≡ chained (read r i item b (drop n s)) (λ v. read r i more b v))
-        go l zero h = absurd (omega arith)
-        go l (suc k) h = (k, omega arith, rw (v .is, e))
+  is-slashed : slashed r (drop at s) ≡ true
+  is-slashed = rw over-slash at (sym (w .is) ∙ e)
 
-    pub more₃ : {o : Step} → j ≡ Over n → Chained r (not b) b s n t o → Stepped more r b s at t o
-    unfolding read more-at
-    more₃ {o} e a = let l = over-after v e in record { reads = same-read _ _ _ 0 _ 1 s at n t o (omega arith) (go l) (a .reads) }
-      where
-        go : (at < n) × (n ≤ length s) → (k : ℕ) → fuel-at s at + 0 < k
-            → (i : ℕ) × (fuel-at s n < i) × (read r k more b (drop at s) ≡ chained (read r i item (not b) (drop n s)) (λ v. read r i more b v))
-        go l zero h = absurd (omega arith)
-        go l (suc k) h = (k, omega arith, rw (v .is, e))
+  slash-room : at < length s
+  slash-room = omega (arith, slashed-room r (drop at s) is-slashed, length-drop at s)
 
-  -- PRODUCTS
+  quotient-more : (f : List ℕ → Found (List Part)) (ps : List Part) → quotient-on r f ps (drop at s) ≡ appended ps (f (drop (at + 1) s))
+  unfolding quotient-on slashed
+  quotient-more f ps = rw (here s at slash-room, rw (here s at slash-room) at is-slashed)
 
-  pub product₁ : {l : Leading} {o : Step} → Leads r s at l → l .found ≡ true → Chained r (not b) b s (l .next) t o → Stepped product r b s at t o
-  unfolding read product-at
-  product₁ {l} {o} w e a = record { reads = same-read _ _ _ 1 _ 1 s at (l .next) t o (omega (arith, w .after e)) go (a .reads) }
+quotient-none : (r : Rules) (f : List ℕ → Found (List Part)) (ps : List Part) (u : List ℕ) → slashed r u ≡ false → quotient-on r f ps u ≡ found ps u
+unfolding quotient-on slashed
+quotient-none r f ps [] e = refl
+quotient-none r f ps (c ∷ u) e = rw e
+
+-- A PRODUCT, TURN BY TURN
+
+-- of a product under the sign b that starts at `at` with the terms t, what stands before `from` has been read: whatever is read from there on, first an
+-- item under the sign d, ends the product
+pub record Ongoing (r : Rules) (b : Bool) (s : List ℕ) (at : ℕ) (t : Lent) (from : ℕ) (d : Bool) (u : Lent) : Type 0 where
+  pub forward : at ≤ from
+  pub ready : Ready s from u
+  pub whole : (v : Lent) (o : ℕ) → Chained r d b s from u v o → Stepped product r b s at t v o
+
+pub turn-first : {r : Rules} {b d : Bool} {s : List ℕ} {at : ℕ} {t : Lent} {l : Leading} → Ready s at t → Leads r s at l → d ≡ turned-by (l .found) b
+    → Ongoing r b s at t (l .next) d t
+turn-first {r} {b} {d} {s} {at} {t} {l} w v e = record {
+  forward = v .from;
+  ready = record { within = v .within; few = omega (arith, w .few, v .from); room = w .room };
+  whole = λ x o a. record {
+    reads = same-read (omega (arith, v .from)) (above _ (λ k h. (k, omega (arith, v .from), product-next r b s at l k v ∙ (rw e)))) (a .reads);
+  };
+}
+
+module _ {r : Rules} {b d : Bool} {s : List ℕ} {at from i : ℕ} {t u v : Lent} (g : Ongoing r b s at t from d u) (a : Stepped item r d s from u v i) where
+  pub turn-none : (over : Bool) → i ≡ 0 → Stepped (kind over) r b s at t v 0
+  unfolding read then
+  turn-none over e = go over
     where
-      go : (k : ℕ) → fuel-at s at + 1 < k → (i : ℕ) × (fuel-at s (l .next) < i)
-          × (read r k product b (drop at s) ≡ chained (read r i item (not b) (drop (l .next) s)) (λ v. read r i more b v))
-      go zero h = absurd (omega arith)
-      go (suc k) h = (k, omega (arith, w .after e, w .within), rw (w .is, e))
+      product-none : Stepped product r b s at t v 0
+      product-none = g .whole v 0 (record { reads = nothing-read (λ k h. chain-none r d b s from k (a .reads .misses e k (omega arith))) })
 
-  pub product₂ : {l : Leading} {o : Step} → Leads r s at l → l .found ≡ false → Chained r b b s at t o → Stepped product r b s at t o
-  unfolding read product-at
-  product₂ {l} {o} w e a = record { reads = same-read _ _ _ 1 _ 1 s at at t o (omega arith) go (a .reads) }
-    where
-      go : (k : ℕ) → fuel-at s at + 1 < k → (i : ℕ) × (fuel-at s at < i) × (read r k product b (drop at s) ≡ chained (read r i item b (drop at s)) (λ v. read r i more b v))
-      go zero h = absurd (omega arith)
-      go (suc k) h = (k, omega arith, rw (w .is, e))
+      go : (y : Bool) → Stepped (kind y) r b s at t v 0
+      go true = record { reads = nothing-read (above _ (λ k h. rw (product-none .reads .misses refl k (omega arith)))) }
+      go false = product-none
 
-  -- QUOTIENTS
+  module _ {j : Joined} (e : i ≡ 0 → ⊥) (w : Joins r s (i - 1) j) where
+    pub turn-less : not (j .found) ≡ false → length s - j .next < length s - from
+    turn-less f = omega (arith, w .tied .after (not-false (j .found) f), a .reads .ahead (omega arith), w .tied .within)
 
-  module _ {p : Step} (a : Stepped product r b s at t p) where
-    quotient-by : (k : ℕ) → fuel-at s at + 2 < suc k
-        → read r (suc k) quotient b (drop at s) ≡ then (found-by (p .ok) (a .reads .parts) (drop (p .next) s)) (λ ps u. quotient-on r (λ v. read r k item (not b) v) ps u)
-    unfolding read
-    quotient-by k h = ap (λ (x : Found (List Part)). then x (λ ps u. quotient-on r (λ v. read r k item (not b) v) ps u)) (a .reads .is k (omega arith))
+    pub turn-next : {c : Bool} → not (j .found) ≡ false → c ≡ turned-by (j .over) b → Ongoing r b s at t (j .next) c v
+    turn-next {c} f q =
+        let y = not-false (j .found) f in
+        let near = w .tied .after y in
+        let far = a .reads .ahead (omega arith) in
+        let z = a .reads .ready (omega arith) in
+        record {
+          forward = omega (arith, g .forward);
+          ready = record { within = w .tied .within; few = omega (arith, z .few); room = z .room };
+          whole = λ x o m. g .whole x o (record {
+            reads = then-read (a .reads) (omega arith) (omega arith) (above _ (λ k h. (
+              k,
+              omega (arith, w .tied .within),
+              chain-next r d b s from (i - 1) (suc k) (a .reads .parts) (a .reads .is (omega arith) (suc k) (omega arith))
+                  ∙ ap (appended (a .reads .parts)) (more-next r b s (i - 1) j k w y ∙ (rw q)),
+            ))) (m .reads);
+          });
+        }
 
-    -- where the product is all
-    alone : ((k : ℕ) → fuel-at s at + 2 < suc k → read r (suc k) quotient b (drop at s) ≡ found-by (p .ok) (a .reads .parts) (drop (p .next) s)) → Stepped quotient r b s at t p
-    alone q = record {
-      reads = record {
-        parts = a .reads .parts;
-        is = go;
-        within = a .reads .within;
-        ahead = a .reads .ahead;
-        few = a .reads .few;
-        keeps = a .reads .keeps;
-      };
-    }
-      where
-        go : (k : ℕ) → fuel-at s at + 2 < k → read r k quotient b (drop at s) ≡ found-by (p .ok) (a .reads .parts) (drop (p .next) s)
-        go zero h = absurd (omega arith)
-        go (suc k) h = q k h
+    module _ (f : not (j .found) ≡ true) {over x : Bool} (m : Slashes r over s (i - 1) x) where
+      product-ends : Stepped product r b s at t v i
+      product-ends = g .whole v i (record {
+        reads = more-read (a .reads) (omega arith) (omega arith) (above _ (λ k h. (
+            chain-next r d b s from (i - 1) (suc k) (a .reads .parts) (a .reads .is (omega arith) (suc k) (omega arith))
+            ∙ more-none r b s (i - 1) j k (a .reads .parts) w (not-true (j .found) f))));
+      })
 
-    pub quotient₁ : not (p .ok) ≡ true → Stepped quotient r b s at t p
-    unfolding then
-    quotient₁ e = alone (λ k h. quotient-by k h ∙ (rw (not-true (p .ok) e)))
+      -- the product, then what may stand behind it
+      quotient-by : (k : ℕ) → fuel-at s at + 2 ≤ k
+          → read r (suc k) quotient b (drop at s) ≡ quotient-on r (λ z. read r k item (not b) z) (product-ends .reads .parts) (drop (i - 1) s)
+      unfolding read then
+      quotient-by k h = rw (product-ends .reads .is (omega arith) k (omega arith))
 
-    pub quotient₂ : not (p .ok) ≡ false → length s ≤ p .next → Stepped quotient r b s at t p
-    unfolding then quotient-on
-    quotient₂ e g = alone (λ k h. quotient-by k h ∙ (rw (not-false (p .ok) e, beyond s (p .next) g)))
+      pub turn-last : x ≡ false → Stepped (kind over) r b s at t v i
+      turn-last y = go over refl
+        where
+          go : (c : Bool) → over ≡ c → Stepped (kind c) r b s at t v i
+          go false q = product-ends
+          go true q = record {
+            reads = more-read (product-ends .reads) (omega arith) (omega arith) (above _ (λ k h. (
+                quotient-by k h ∙ quotient-none r (λ z. read r k item (not b) z) (product-ends .reads .parts) (drop (i - 1) s) (rw q at (sym (m .is) ∙ y)))));
+          }
 
-    pub quotient₃ : {x : Bool} → not (p .ok) ≡ false → p .next < length s → x ≡ (eqb (getD s (p .next) 0) 47 && not (r .each)) → x ≡ false → Stepped quotient r b s at t p
-    unfolding then quotient-on
-    quotient₃ e g y z = alone (λ k h. quotient-by k h ∙ (rw (not-false (p .ok) e, here s (p .next) g, sym y ∙ z)))
+      pub turn-over : {n : Lent} {o : ℕ} → x ≡ true → Stepped item r (not b) s i v n o → Stepped (kind over) r b s at t n o
+      turn-over y c =
+          let there : i - 1 + 1 ≡ i = omega arith in
+          let far = product-ends .reads .ahead (omega arith) in
+          rw (over-slash m y) (record {
+            reads = then-read (product-ends .reads) (omega arith) (omega arith) (above _ (λ k h. (
+              k,
+              omega arith,
+              quotient-by k h ∙ quotient-more m y (λ z. read r k item (not b) z) (product-ends .reads .parts)
+                  ∙ ap (λ (n : ℕ). appended (product-ends .reads .parts) (read r k item (not b) (drop n s))) there,
+            ))) (c .reads);
+          })
 
-    pub quotient₄ : {x : Bool} {o : Step} → not (p .ok) ≡ false → p .next < length s → x ≡ (eqb (getD s (p .next) 0) 47 && not (r .each)) → x ≡ true
-        → Stepped item r (not b) s (p .next + 1) (p .terms) o → Stepped quotient r b s at t o
-    unfolding then quotient-on
-    quotient₄ {x} {o} e g y z m = record {
-      reads = record {
-        parts = a .reads .parts ++ m .reads .parts;
-        is = go;
-        within = m .reads .within;
-        ahead = λ u. omega (arith, a .reads .ahead (not-false (p .ok) e), m .reads .ahead u);
-        few = m .reads .few;
-        keeps = λ u ps h. rw (append-assoc ps (a .reads .parts) (m .reads .parts)) at (m .reads .keeps u (ps ++ a .reads .parts) (a .reads .keeps (not-false (p .ok) e) ps h));
-      };
-    }
-      where
-        go : (k : ℕ) → fuel-at s at + 2 < k → read r k quotient b (drop at s) ≡ found-by (o .ok) (a .reads .parts ++ m .reads .parts) (drop (o .next) s)
-        go zero h = absurd (omega arith)
-        go (suc k) h = quotient-by k h ∙ (rw (not-false (p .ok) e, here s (p .next) g, sym y ∙ z, m .reads .is k (omega (arith, a .reads .ahead (not-false (p .ok) e))))
-            (appended-by (a .reads .parts) (o .ok) (m .reads .parts) (drop (o .next) s)))
-
--- WHERE THE NEXT CALL IS READY
-
-pub ready-on : {s : List ℕ} {at : ℕ} {t : Terms} → Ready s at t → at < length s → Ready s (at + 1) t
-ready-on w h = record { short = w .short; within = omega arith; few = omega (arith, w .few) }
-
-pub ready-at : {s : List ℕ} {at n : ℕ} {t : Terms} → Ready s at t → at < n → n ≤ length s → Ready s n t
-ready-at w h g = record { short = w .short; within = g; few = omega (arith, w .few) }
-
-pub ready-next : {x : Kind} {r : Rules} {b : Bool} {s : List ℕ} {at : ℕ} {t : Terms} {o : Step} → Ready s at t → Stepped x r b s at t o → not (o .ok) ≡ false
-    → Ready s (o .next) (o .terms)
-ready-next {o = o} w a e = record { short = w .short; within = a .reads .within; few = a .reads .few (not-false (o .ok) e) }
-
-pub ready-last : {x : Kind} {r : Rules} {b : Bool} {s : List ℕ} {at : ℕ} {t : Terms} {o : Step} → Ready s at t → Stepped x r b s at t o → not (o .ok) ≡ false
-    → o .next < length s → Ready s (o .next + 1) (o .terms)
-ready-last w a e h = ready-on (ready-next w a e) h
-
--- at least so many bytes are read
-pub read-ahead : {x : Kind} {r : Rules} {b : Bool} {s : List ℕ} {at : ℕ} {t : Terms} {o : Step} → Stepped x r b s at t o → not (o .ok) ≡ false → at + least x ≤ o .next
-read-ahead {o = o} a e = a .reads .ahead (not-false (o .ok) e)
+      pub ready-over : x ≡ true → Ready s i v
+      ready-over y = let z = a .reads .ready (omega arith) in record { within = omega (arith, slash-room m y); few = omega (arith, z .few); room = z .room }

@@ -1,40 +1,109 @@
 -- One term more: the ways through the code, and what the terms then stand for.
-use Prim.Native.Nat.{ℕ, _≤_, _<_, _+_}
+use Prim.Native.Nat.{ℕ, zero, suc, _≤_, _<_, _+_}
 use native.Mathlib.Omega.{arith}
 use native.Mathlib.Numerals.{add-one}
 use mathlib.Core.Path.{_≡_, refl, sym, ap, _∙_}
-use mathlib.Core.Bool.{Bool, true, false, _||_, not}
+use mathlib.Core.Bool.{Bool, true, false}
 use mathlib.Core.List.{List, [], _∷_, _++_, map, map-append}
 use mathlib.Core.Option.{Option, none, some}
-use lib.ListN.{length, take, set, length-set, length-append}
-use lib.Seq.{take-suc-set}
+use lib.IntN.{ℤ, pos}
+use lib.ListN.{length, getD, set, length-set, length-append}
+use lib.Seq.{getD-set-same, getD-set-other}
 use Rattle.label.specs.declared.Exponent.{Exponent}
 use Rattle.label.specs.Lexical.{Part}
 use Rattle.label.specs.Limits.{exponent-of}
 use Rattle.label.specs.Split.{Placed, valued-unit, valued-units}
-use Rattle.label.proofs.Basics.{false-true}
 use Rattle.values.specs.Given.{given}
-use Rattle.descent.specs.declared.terms.Term.{Term}
-use Rattle.descent.specs.declared.terms.Terms.{Terms}
-use Rattle.descent.specs.Terms.{Empty, Pushed, placed-in, is-none, InLabel, AllIn, Holds}
+use Rattle.descent.specs.Terms.{Lent, lent, Roomy, count, broken, Empty, Term, term, term-at, terms, mark, Kept, placed-in, missing, InLabel, AllIn, Holds}
 
-module _ {t : Terms} {x : Term} {ok b : Bool} (e : b ≡ (t .broken || not ok)) where
-  pub push₁ : t .count < 32 → Pushed t x ok (record { count = t .count + 1; broken = b; kept = set (t .kept) (t .count) x })
-  push₁ h = record {
-    count = refl;
-    broken = e;
-    room = λ l. length-set (t .kept) (t .count) x ∙ l;
-    kept = λ l g. rw (add-one (t .count), take-suc-set (t .kept) (t .count) x (omega arith));
+-- terms that are the same one by one
+terms-same : (t u : Lent) (n : ℕ) → ((i : ℕ) → i < n → term-at u i ≡ term-at t i) → terms u n ≡ terms t n
+unfolding terms
+terms-same t u zero h = refl
+terms-same t u (suc n) h = rw (terms-same t u n (λ i l. h i (omega arith)), h n (omega arith))
+
+pub terms-next : (t : Lent) (n : ℕ) → terms t (n + 1) ≡ terms t n ++ (term-at t n ∷ [])
+unfolding terms
+terms-next t n = rw (add-one n)
+
+pub terms-length : (t : Lent) (n : ℕ) → length (terms t n) ≡ n
+unfolding terms
+terms-length t zero = refl
+terms-length t (suc n) = length-append (terms t n) (term-at t n ∷ []) ∙ omega (arith, terms-length t n)
+
+-- the places with the count and the mark of one term more, then with term n too
+abbrev noted : List ℕ → ℕ → ℕ → List ℕ
+noted p n m = set (set p 64 (n + 1)) 65 m
+
+abbrev stored : List ℕ → ℕ → ℕ → ℕ → ℕ → List ℕ
+stored p n m a z = set (set (noted p n m) n a) (32 + n) z
+
+module _ (p : List ℕ) (n m : ℕ) (l : length p ≡ 66) where
+  noted-count : getD (noted p n m) 64 0 ≡ n + 1
+  noted-count = getD-set-other (set p 64 (n + 1)) 65 64 m 0 (λ e. omega arith) ∙ getD-set-same p 64 (n + 1) 0 (omega arith)
+
+  noted-length : length (noted p n m) ≡ 66
+  noted-length = simp length-set l
+
+  noted-mark : getD (noted p n m) 65 0 ≡ m
+  noted-mark = getD-set-same (set p 64 (n + 1)) 65 m 0 (simp length-set (omega arith))
+
+  noted-other : (i : ℕ) → i < 64 → getD (noted p n m) i 0 ≡ getD p i 0
+  noted-other i h = getD-set-other (set p 64 (n + 1)) 65 i m 0 (λ e. omega arith) ∙ getD-set-other p 64 i (n + 1) 0 (λ e. omega arith)
+
+  module _ (a z : ℕ) where
+    stored-other : (i : ℕ) → (i ≡ n → ⊥) → (i ≡ 32 + n → ⊥) → getD (stored p n m a z) i 0 ≡ getD (noted p n m) i 0
+    stored-other i e f = getD-set-other (set (noted p n m) n a) (32 + n) i z 0 f ∙ getD-set-other (noted p n m) n i a 0 e
+
+    stored-start : n < 32 → getD (stored p n m a z) n 0 ≡ a
+    stored-start h = getD-set-other (set (noted p n m) n a) (32 + n) n z 0 (λ e. omega arith) ∙ getD-set-same (noted p n m) n a 0 (omega (arith, noted-length))
+
+    stored-end : n < 32 → getD (stored p n m a z) (32 + n) 0 ≡ z
+    stored-end h = getD-set-same (set (noted p n m) n a) (32 + n) z 0 (rw length-set (omega (arith, noted-length)))
+
+marks-as : (p : List ℕ) (n m : ℕ) (ok : Bool) → m ≡ mark ok (getD (set p 64 (n + 1)) 65 0) → m ≡ mark ok (getD p 65 0)
+marks-as p n m ok w = w ∙ ap (mark ok) (getD-set-other p 64 65 (n + 1) 0 (λ q. omega arith))
+
+module _ {p : List ℕ} {e : List ℤ} {n m a z : ℕ} {x : ℤ} {ok : Bool} (l : Roomy (lent p e)) (c : getD p 64 0 ≡ n) (w : m ≡ mark ok (getD (set p 64 (n + 1)) 65 0)) where
+  pub kept₁ : {y : ℤ} → y ≡ x → n < 32 → Kept (lent p e) a z x ok (lent (stored p n m a z) (set e n y))
+  kept₁ {y} q h = record {
+    room = record { places = simp length-set (l .places); exponents = simp length-set (l .exponents) };
+    counted = stored-other p n m (l .places) a z 64 (λ q. omega arith) (λ q. omega arith) ∙ noted-count p n m (l .places) ∙ ap (λ (k : ℕ). k + 1) (sym c);
+    marks = stored-other p n m (l .places) a z 65 (λ q. omega arith) (λ q. omega arith) ∙ noted-mark p n m (l .places) ∙ marks-as p n m ok w;
+    adds = λ g. rw (
+      c,
+      terms-next (lent (stored p n m a z) (set e n y)) n,
+      terms-same (lent p e) (lent (stored p n m a z) (set e n y)) n same,
+      stored-start p n m (l .places) a z h,
+      stored-end p n m (l .places) a z h,
+      getD-set-same e n y (pos 0) (omega (arith, l .exponents)),
+      q,
+    );
   }
+    where
+      place : (i : ℕ) → i < 64 → (i ≡ n → ⊥) → (i ≡ 32 + n → ⊥) → getD (stored p n m a z) i 0 ≡ getD p i 0
+      place i g q f = stored-other p n m (l .places) a z i q f ∙ noted-other p n m (l .places) i g
 
-  pub push₂ : 32 ≤ t .count → Pushed t x ok (record { count = t .count + 1; broken = b; kept = t .kept })
-  push₂ h = record { count = refl; broken = e; room = λ l. l; kept = λ l g. absurd (omega arith) }
+      same : (i : ℕ) → i < n → term-at (lent (stored p n m a z) (set e n y)) i ≡ term-at (lent p e) i
+      same i g = rw (
+        place i (omega arith) (λ q. omega arith) (λ q. omega arith),
+        place (32 + i) (omega arith) (λ q. omega arith) (λ q. omega arith),
+        getD-set-other e n i y (pos 0) (λ q. omega arith),
+      )
+
+  pub kept₂ : 32 ≤ n → Kept (lent p e) a z x ok (lent (noted p n m) e)
+  kept₂ h = record {
+    room = record { places = simp length-set (l .places); exponents = l .exponents };
+    counted = noted-count p n m (l .places) ∙ ap (λ (k : ℕ). k + 1) (sym c);
+    marks = noted-mark p n m (l .places) ∙ marks-as p n m ok w;
+    adds = λ g. absurd (omega arith);
+  }
 
 -- WHAT THE TERMS STAND FOR
 
-pub holds-none : {t : Terms} → Empty t → (s : List ℕ) → Holds s t []
-unfolding valued-units
-holds-none w s = record { count = w .count; room = w .room; broken = w .unbroken; kept = λ h e. rw (w .count); inside = λ h. rw (w .count) AllIn.none }
+pub holds-none : {t : Lent} → Empty t → (s : List ℕ) → Holds s t []
+unfolding valued-units terms
+holds-none w s = record { counted = w .counts; marks = w .unbroken; kept = λ h e. refl; inside = λ h. AllIn.none }
 
 -- two lists of units, if both have their values
 both-units : Option (List Placed) → Option (List Placed) → Option (List Placed)
@@ -68,30 +137,32 @@ all-in-more : {s : List ℕ} {xs : List Term} {x : Term} → AllIn s xs → InLa
 all-in-more AllIn.none i = AllIn.more i AllIn.none
 all-in-more (AllIn.more j js) i = AllIn.more j (all-in-more js i)
 
-module _ (s : List ℕ) {t u : Terms} {x : Term} {ok : Bool} (p : Part) (q : given ok (x .exponent) ≡ exponent-of (p .turned) (p .power))
-    (same : placed-in s x ≡ record { spelling = p .spelling; exponent = x .exponent; left = p .left }) (w : Pushed t x ok u) (i : InLabel s x) where
-  units-more : (ps : List Part) → valued-units (ps ++ (p ∷ [])) ≡ both-units (valued-units ps) (given ok (placed-in s x ∷ []))
-  units-more ps = units-append ps (p ∷ []) ∙ ap (both-units (valued-units ps)) (one-unit p ok (x .exponent) q ∙ ap (λ (y : Placed). given ok (y ∷ [])) (sym same))
+module _ (s : List ℕ) {t u : Lent} {a z : ℕ} {x : Exponent} {ok : Bool} (p : Part) (q : given ok x ≡ exponent-of (p .turned) (p .power))
+    (same : placed-in s (term a z (x .0)) ≡ record { spelling = p .spelling; exponent = x; left = p .left }) (w : Kept t a z (x .0) ok u) (i : InLabel s (term a z (x .0))) where
+  units-more : (ps : List Part) → valued-units (ps ++ (p ∷ [])) ≡ both-units (valued-units ps) (given ok (placed-in s (term a z (x .0)) ∷ []))
+  units-more ps = units-append ps (p ∷ []) ∙ ap (both-units (valued-units ps)) (one-unit p ok x q ∙ ap (λ (y : Placed). given ok (y ∷ [])) (sym same))
+
+  terms-more : (ps : List Part) → count t ≡ length ps → length (ps ++ (p ∷ [])) ≤ 32 → terms u (length (ps ++ (p ∷ []))) ≡ terms t (length ps) ++ (term a z (x .0) ∷ [])
+  terms-more ps c l = rw (length-append ps (p ∷ []), ← c) (w .adds (omega (arith, length-append ps (p ∷ []))))
 
   pub holds-more : (ps : List Part) → Holds s t ps → Holds s u (ps ++ (p ∷ []))
   unfolding both-units
   holds-more ps h = record {
-    count = omega (arith, w .count, h .count, length-append ps (p ∷ []));
-    room = w .room (h .room);
-    broken = w .broken ∙ ap (λ (b : Bool). b || not ok) (h .broken) ∙ flag (valued-units ps) ok ∙ ap is-none (sym (units-more ps));
-    kept = λ l e. units-more ps ∙ keeps l e (t .broken) ok refl refl;
-    inside = λ l. rw (w .count, w .kept (h .room) (omega (arith, h .count, length-append ps (p ∷ [])))) (all-in-more (h .inside (omega (arith, length-append ps (p ∷ [])))) i);
+    counted = omega (arith, w .counted, h .counted, length-append ps (p ∷ []));
+    marks = w .marks ∙ ap (mark ok) (h .marks) ∙ flag (valued-units ps) ok ∙ ap missing (sym (units-more ps));
+    kept = λ l e. units-more ps ∙ keeps l e (broken t) ok refl refl;
+    inside = λ l. rw (terms-more ps (h .counted) l) (all-in-more (h .inside (omega (arith, length-append ps (p ∷ [])))) i);
   }
     where
-      flag : (o : Option (List Placed)) (b : Bool) → (is-none o || not b) ≡ is-none (both-units o (given b (placed-in s x ∷ [])))
-      flag none b = refl
+      flag : (o : Option (List Placed)) (b : Bool) → mark b (missing o) ≡ missing (both-units o (given b (placed-in s (term a z (x .0)) ∷ [])))
+      flag none true = refl
+      flag none false = refl
       flag (some us) true = refl
       flag (some us) false = refl
 
-      keeps : length (ps ++ (p ∷ [])) ≤ 32 → u .broken ≡ false → (a b : Bool) → t .broken ≡ a → ok ≡ b
-          → both-units (valued-units ps) (given ok (placed-in s x ∷ [])) ≡ some (map (placed-in s) (take (u .count) (u .kept)))
-      keeps l e true b y z = absurd (false-true (sym e ∙ w .broken ∙ (rw y)))
-      keeps l e false false y z = absurd (false-true (sym e ∙ w .broken ∙ (rw (y, z))))
-      keeps l e false true y z =
+      keeps : length (ps ++ (p ∷ [])) ≤ 32 → broken u ≡ 0 → (n : ℕ) (b : Bool) → broken t ≡ n → ok ≡ b
+          → both-units (valued-units ps) (given ok (placed-in s (term a z (x .0)) ∷ [])) ≡ some (map (placed-in s) (terms u (length (ps ++ (p ∷ [])))))
+      keeps l e n false y v = absurd (omega (arith, rw v at (w .marks)))
+      keeps l e n true y v =
           let few : length ps < 32 = omega (arith, length-append ps (p ∷ [])) in
-          rw (h .kept (omega arith) y, z, w .count, w .kept (h .room) (omega (arith, h .count)), map-append (placed-in s) (take (t .count) (t .kept)) (x ∷ []))
+          rw (h .kept (omega arith) (omega (arith, rw v at (w .marks))), v, terms-more ps (h .counted) l, map-append (placed-in s) (terms t (length ps)) (term a z (x .0) ∷ []))

@@ -1,35 +1,82 @@
--- The terms that the code holds, and the units of a label that they stand for.
-use Prim.Native.Nat.{ℕ, _≤_, _<_, _-_, _+_}
+-- The terms that the code holds in its two lent arrays, and the units of a label that they stand for.
+use Prim.Native.Nat.{ℕ, zero, suc, _≤_, _<_, _-_, _+_}
 use mathlib.Core.Path.{_≡_}
-use mathlib.Core.Bool.{Bool, true, false, _||_, not}
+use mathlib.Core.Bool.{Bool, true, false}
 use mathlib.Core.List.{List, [], _∷_, _++_, map}
 use mathlib.Core.Option.{Option, none as nothing, some}
-use lib.ListN.{length, take}
+use lib.IntN.{ℤ, pos}
+use lib.ListN.{length, getD}
 use Rattle.label.specs.Lexical.{Part}
 use Rattle.label.specs.Split.{Placed, valued-units}
 use Rattle.label.specs.Ranges.{between}
-use Rattle.descent.specs.declared.terms.Term.{Term}
-use Rattle.descent.specs.declared.terms.Terms.{Terms}
 
-pub record Empty (t : Terms) : Type 0 where
-  pub count : t .count ≡ 0
-  pub unbroken : t .broken ≡ false
-  pub room : length (t .kept) ≡ 32
+-- THE ARRAYS
 
--- one term more
-pub record Pushed (t : Terms) (x : Term) (ok : Bool) (r : Terms) : Type 0 where
-  pub count : r .count ≡ t .count + 1
-  pub broken : r .broken ≡ (t .broken || not ok)
-  pub room : length (t .kept) ≡ 32 → length (r .kept) ≡ 32
-  pub kept : length (t .kept) ≡ 32 → t .count < 32 → take (t .count + 1) (r .kept) ≡ take (t .count) (t .kept) ++ (x ∷ [])
+pub record Lent : Type 0 where
+  pub places : List ℕ
+  pub exponents : List ℤ
+
+abbrev pub lent : List ℕ → List ℤ → Lent
+lent p e = record { places = p; exponents = e }
+
+pub record Roomy (t : Lent) : Type 0 where
+  pub places : length (t .places) ≡ 66
+  pub exponents : length (t .exponents) ≡ 32
+
+-- how many terms there are
+abbrev pub count : Lent → ℕ
+count t = getD (t .places) 64 0
+
+-- 1 where a power breaks its bound
+abbrev pub broken : Lent → ℕ
+broken t = getD (t .places) 65 0
+
+-- no term yet
+pub record Empty (t : Lent) : Type 0 where
+  pub room : Roomy t
+  pub counts : count t ≡ 0
+  pub unbroken : broken t ≡ 0
+
+-- a term: where its spelling starts and ends, and its exponent
+pub record Term : Type 0 where
+  pub start : ℕ
+  pub end : ℕ
+  pub exponent : ℤ
+
+abbrev pub term : ℕ → ℕ → ℤ → Term
+term a z x = record { start = a; end = z; exponent = x }
+
+-- term i of 32
+abbrev pub term-at : Lent → ℕ → Term
+term-at t i = term (getD (t .places) i 0) (getD (t .places) (32 + i) 0) (getD (t .exponents) i (pos 0))
+
+-- the first n terms
+unfoldable pub terms : Lent → ℕ → List Term
+terms t zero = []
+terms t (suc n) = terms t n ++ (term-at t n ∷ [])
+
+-- ONE TERM MORE
+
+abbrev pub mark : Bool → ℕ → ℕ
+mark true m = m
+mark false m = 1
+
+pub record Kept (t : Lent) (a z : ℕ) (x : ℤ) (ok : Bool) (u : Lent) : Type 0 where
+  pub room : Roomy u
+  pub counted : count u ≡ count t + 1
+  pub marks : broken u ≡ mark ok (broken t)
+  pub adds : count t < 32 → terms u (count t + 1) ≡ terms t (count t) ++ (term a z x ∷ [])
+
+-- WHAT THEY STAND FOR
 
 -- a term as a unit of the label s
 abbrev pub placed-in : List ℕ → Term → Placed
-placed-in s x = record { spelling = between s (x .start) (x .end); exponent = x .exponent; left = length s - x .start }
+placed-in s x = record { spelling = between s (x .start) (x .end); exponent = record { 0 = x .exponent }; left = length s - x .start }
 
-abbrev pub is-none : {A : Type 0} → Option A → Bool
-is-none nothing = true
-is-none (some a) = false
+-- 1 for no value
+abbrev pub missing : {A : Type 0} → Option A → ℕ
+missing nothing = 1
+missing (some a) = 0
 
 -- a term's spelling lies in the label s
 pub record InLabel (s : List ℕ) (x : Term) : Type 0 where
@@ -41,9 +88,8 @@ pub data AllIn (s : List ℕ) : List Term → Type 0 where
   more : {x : Term} {xs : List Term} → InLabel s x → AllIn s xs → AllIn s (x ∷ xs)
 
 -- the terms stand for these units: all are counted, it is told whether a power breaks its bound, and up to 32 are kept with their values
-pub record Holds (s : List ℕ) (t : Terms) (ps : List Part) : Type 0 where
-  pub count : t .count ≡ length ps
-  pub room : length (t .kept) ≡ 32
-  pub broken : t .broken ≡ is-none (valued-units ps)
-  pub kept : length ps ≤ 32 → t .broken ≡ false → valued-units ps ≡ some (map (placed-in s) (take (t .count) (t .kept)))
-  pub inside : length ps ≤ 32 → AllIn s (take (t .count) (t .kept))
+pub record Holds (s : List ℕ) (t : Lent) (ps : List Part) : Type 0 where
+  pub counted : count t ≡ length ps
+  pub marks : broken t ≡ missing (valued-units ps)
+  pub kept : length ps ≤ 32 → broken t ≡ 0 → valued-units ps ≡ some (map (placed-in s) (terms t (length ps)))
+  pub inside : length ps ≤ 32 → AllIn s (terms t (length ps))

@@ -5,13 +5,23 @@ use scan::run::spaces;
 ghost use Prim.Native.Nat.{_≤_};
 ghost use mathlib.Core.Path.{_≡_};
 ghost use lib.ListN.{length};
-ghost use Rattle.descent.specs.Joints.{separates, Pads, Joins, Spaces, Leads};
+ghost use Rattle.descent.specs.Joints.{separates, turned-by, Pads, Joins, Spaces, Leads, Slashes};
 
-// Nothing that joins; or something that joins, and where the text after it starts.
-pub enum Joint {
-    Stop,
-    Times(usize),
-    Over(usize),
+// Whether something joins, whether it is a slash, and where the text after it starts.
+pub struct Joint {
+    pub found: bool,
+    pub over: bool,
+    pub next: usize,
+}
+
+// The sign `turned`, turned over by a slash or not.
+pub fn turned_by(slash: bool, turned: bool) -> bool
+    ensures { λ r. ⌜ r ≡ turned-by slash turned ⌝ }
+{
+    if slash {
+        return !turned;
+    }
+    turned
 }
 
 // The place behind the spaces at `at`, where the rules let spaces stand around a separator.
@@ -41,12 +51,24 @@ pub fn spaced(r: Rules, s: &[u8], at: usize) -> Joint
     ensures { λ o. ⌜ Spaces r (now (s .entry)) at o ⌝ }
 {
     if s.len() <= at {
-        return Joint::Stop;
+        return Joint {
+            found: false,
+            over: false,
+            next: at,
+        };
     }
     if both(s[at] == 32, r.space) {
-        return Joint::Times(padded(r, s, at + 1));
+        return Joint {
+            found: true,
+            over: false,
+            next: padded(r, s, at + 1),
+        };
     }
-    Joint::Stop
+    Joint {
+        found: false,
+        over: false,
+        next: at,
+    }
 }
 
 // What joins the unit or group before `at` to the next.
@@ -56,14 +78,26 @@ pub fn join_at(r: Rules, s: &[u8], at: usize) -> Joint
 {
     let p = padded(r, s, at);
     if s.len() <= p {
-        return Joint::Stop;
+        return Joint {
+            found: false,
+            over: false,
+            next: at,
+        };
     }
     let c = s[p];
     if is_separator(r, c) {
-        return Joint::Times(padded(r, s, p + 1));
+        return Joint {
+            found: true,
+            over: false,
+            next: padded(r, s, p + 1),
+        };
     }
     if both(c == 47, r.each) {
-        return Joint::Over(padded(r, s, p + 1));
+        return Joint {
+            found: true,
+            over: true,
+            next: padded(r, s, p + 1),
+        };
     }
     spaced(r, s, at)
 }
@@ -95,4 +129,18 @@ pub fn leading_slash(r: Rules, s: &[u8], at: usize) -> Leading
         found: false,
         next: at,
     }
+}
+
+// Whether the one slash that may come after a product stands at `at`, where `over` lets it.
+pub fn last_slash(r: Rules, s: &[u8], at: usize, over: bool) -> bool
+    requires { ⌜ at ≤ length (now s) ⌝ }
+    ensures { λ o. ⌜ Slashes r over (now (s .entry)) at o ⌝ }
+{
+    if !over {
+        return false;
+    }
+    if s.len() <= at {
+        return false;
+    }
+    both(s[at] == 47, !r.each)
 }

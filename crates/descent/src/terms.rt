@@ -1,62 +1,42 @@
-// The terms of a label: at most 32 are kept, and all are counted.
-use label::Exponent;
+// The terms of a label, in two lent arrays. `places` has the starts of the first 32 spellings at 0 to 31, their ends at 32 to 63, how many
+// terms there are in all at 64, and at 65 a 1 where an exponent of one breaks its bound. `exponents` has the first 32 exponents.
 ghost use mathlib.Core.Path.{_≡_};
-ghost use mathlib.Core.Bool.{_||_, not};
 ghost use Prim.Native.Nat.{_<_, _+_, _^_};
-ghost use Rattle.descent.specs.Terms.{Empty, Pushed};
+ghost use lib.ListN.{getD};
+ghost use Rattle.descent.specs.Terms.{lent, Roomy, mark, Kept};
 
-// One unit: where its spelling starts and ends, and its exponent.
-pub struct Term {
-    pub start: u8,
-    pub end: u8,
-    pub exponent: Exponent,
-}
-
-// How many units there are, whether an exponent of one breaks its bound, and the first 32 units.
-pub struct Terms {
-    pub count: usize,
-    pub broken: bool,
-    pub kept: [Term; 32],
-}
-
-pub fn no_terms() -> Terms
-    ensures { λ r. ⌜ Empty r ⌝ }
+// The mark `m`, or 1 where `ok` is false.
+pub fn marked(m: usize, ok: bool) -> usize
+    ensures { λ r. ⌜ r ≡ mark ok m ⌝ }
 {
-    let t = Term {
-        start: 0,
-        end: 0,
-        exponent: Exponent(0),
-    };
-    Terms {
-        count: 0,
-        broken: false,
-        kept: [t; 32],
+    if ok {
+        return m;
     }
-}
-
-// Whether `a` holds or `ok` does not.
-pub fn unless(a: bool, ok: bool) -> bool
-    ensures { λ r. ⌜ r ≡ (a || not ok) ⌝ }
-{
-    if a {
-        return true;
-    }
-    !ok
+    1
 }
 
 // One term more. `ok` tells whether its exponent keeps its bounds.
-pub fn push(t: Terms, x: Term, ok: bool) -> Terms
-    requires { ⌜ t .count + 1 < 2 ^ 64 ⌝ }
-    ensures { λ r. ⌜ Pushed t x ok r ⌝ }
+pub fn keep(
+    places: &mut [usize; 66],
+    exponents: &mut [i32; 32],
+    start: usize,
+    end: usize,
+    exponent: i32,
+    ok: bool,
+)
+    requires { ⌜ Roomy (lent (now places) (now exponents)) ⌝ }
+    requires { ⌜ getD (now places) 64 0 + 1 < 2 ^ 64 ⌝ }
+    ensures { λ _. ⌜ Kept
+        (lent (now (places .entry)) (now (exponents .entry))) start end exponent ok
+        (lent (now (places .exit)) (now (exponents .exit))) ⌝ }
 {
-    let n = t.count;
-    let broken = unless(t.broken, ok);
-    let mut next = t;
-    next.count = n + 1;
-    next.broken = broken;
+    let n = places[64];
+    places[64] = n + 1;
+    places[65] = marked(places[65], ok);
     if n < 32 {
-        next.kept[n] = x;
-        return next;
+        places[n] = start;
+        places[32 + n] = end;
+        exponents[n] = exponent;
+        return;
     }
-    next
 }

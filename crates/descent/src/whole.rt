@@ -1,25 +1,32 @@
 // The whole label by a notation's rules, limits not counted.
-use crate::descent::Step;
 use crate::descent::read_item;
-use crate::descent::read_quotient;
-use crate::terms::Terms;
-use crate::terms::no_terms;
+use crate::descent::read_product;
 use label::Rules;
 use label::WrittenFactor;
 use scan::class::both;
 use scan::class::is_digit;
 use scan::run::spaces;
 use tokens::factor::factor;
+ghost use mathlib.Core.Path.{_≡_};
 ghost use Prim.Native.Nat.{_≤_};
 ghost use lib.ListN.{length};
-ghost use Rattle.label.specs.Limits.{most-bytes};
-ghost use Rattle.descent.specs.Labels.{OneSpace, Gaps, Ended, ReadsFactored, ReadsLabel};
+ghost use Rattle.descent.specs.Terms.{lent, Empty};
+ghost use Rattle.descent.specs.Labels.{OneSpace, Gaps, no-label, Ended, ReadsFactored, ReadsLabel};
 
-// The factor and the terms of a label, or none where `ok` is false.
+// The factor of a label, or none where `ok` is false. The terms are in the lent arrays.
 pub struct LabelRead {
     pub ok: bool,
     pub factor: WrittenFactor,
-    pub terms: Terms,
+}
+
+// No label.
+pub fn no_label() -> LabelRead
+    ensures { λ o. ⌜ o ≡ no-label ⌝ }
+{
+    LabelRead {
+        ok: false,
+        factor: WrittenFactor::Absent,
+    }
 }
 
 // The place behind one space, if one stands at `at`.
@@ -50,78 +57,66 @@ pub fn gap(r: Rules, s: &[u8], at: usize) -> usize
     at
 }
 
-// What was read up to the label's end, with the factor before it.
-pub fn ended(s: &[u8], f: WrittenFactor, p: Step) -> LabelRead
+// What was read up to the label's end, with the factor before it; `p` is one more than the place where it ends, or 0.
+pub fn ended(s: &[u8], f: WrittenFactor, p: usize) -> LabelRead
     ensures { λ o. ⌜ Ended (now (s .entry)) f p o ⌝ }
 {
-    let terms = p.terms;
-    if !p.ok {
-        return LabelRead {
-            ok: false,
-            factor: WrittenFactor::Absent,
-            terms,
-        };
-    }
-    if s.len() <= p.next {
-        return LabelRead {
-            ok: true,
-            factor: f,
-            terms,
-        };
+    if p <= s.len() {
+        return no_label();
     }
     LabelRead {
-        ok: false,
-        factor: WrittenFactor::Absent,
-        terms,
+        ok: true,
+        factor: f,
     }
 }
 
 // A label that starts with a digit.
-pub fn factored(r: Rules, s: &[u8]) -> LabelRead
-    requires { ⌜ length (now s) ≤ most-bytes ⌝ }
-    ensures { λ o. ⌜ ReadsFactored r (now (s .entry)) o ⌝ }
+pub fn factored(
+    r: Rules,
+    s: &[u8],
+    places: &mut [usize; 66],
+    exponents: &mut [i32; 32],
+) -> LabelRead
+    requires { ⌜ Empty (lent (now places) (now exponents)) ⌝ }
+    ensures { λ o. ⌜ ReadsFactored r (now (s .entry)) (lent (now (places .exit)) (now (exponents .exit))) o ⌝ }
 {
     let f = factor(r, s, 0);
     if !f.ok {
-        return LabelRead {
-            ok: false,
-            factor: WrittenFactor::Absent,
-            terms: no_terms(),
-        };
+        return no_label();
     }
     let at = gap(r, s, f.next);
-    let p = read_quotient(r, s, at, false, no_terms());
+    let p = read_product(r, s, at, false, true, places, exponents);
     let written = f.factor;
     ended(s, written, p)
 }
 
 // The whole label.
-pub fn read_label(r: Rules, s: &[u8]) -> LabelRead
-    requires { ⌜ length (now s) ≤ most-bytes ⌝ }
-    ensures { λ o. ⌜ ReadsLabel r (now (s .entry)) o ⌝ }
+pub fn read_label(
+    r: Rules,
+    s: &[u8],
+    places: &mut [usize; 66],
+    exponents: &mut [i32; 32],
+) -> LabelRead
+    requires { ⌜ Empty (lent (now places) (now exponents)) ⌝ }
+    ensures { λ o. ⌜ ReadsLabel r (now (s .entry)) (lent (now (places .exit)) (now (exponents .exit))) o ⌝ }
 {
     if s.len() == 0 {
         return LabelRead {
             ok: true,
             factor: WrittenFactor::Absent,
-            terms: no_terms(),
         };
     }
     let c = s[0];
     if c == 32 {
-        return LabelRead {
-            ok: false,
-            factor: WrittenFactor::Absent,
-            terms: no_terms(),
-        };
+        return no_label();
     }
     if is_digit(c) {
-        return factored(r, s);
+        return factored(r, s, places, exponents);
     }
     if both(c == 47, r.lead) {
-        let i = read_item(r, s, 1, true, no_terms());
+        let i = read_item(r, s, 1, true, places, exponents);
         return ended(s, WrittenFactor::Absent, i);
     }
-    let q = read_quotient(r, s, 0, false, no_terms());
+    let q = read_product(r, s, 0, false, true, places, exponents);
     ended(s, WrittenFactor::Absent, q)
 }

@@ -1,36 +1,38 @@
 -- The number that is answered, and what the buffer holds then.
 use Prim.Native.Nat.{ℕ}
-use mathlib.Core.Path.{_≡_, sym, ap, _∙_}
+use native.Mathlib.Omega.{arith}
+use mathlib.Core.Path.{_≡_, _∙_}
 use mathlib.Core.Logic.{_≢_}
 use mathlib.Core.List.{List}
-use lib.ListN.{length, take, length-map}
+use lib.IntN.{ℤ}
 use borrow.Author.Tests.{eq-eqb, ne-eqb}
 use Rattle.label.specs.Reading.{reading}
-use Rattle.label.specs.Reading as spec
-use Rattle.content.specs.Views.{term-in, terms-in}
-use Rattle.reading.specs.declared.read.Reading.{Reading}
+use Rattle.descent.specs.Terms.{Lent, count}
+use Rattle.content.proofs.Naming.{all-in-at}
+use Rattle.reading.specs.declared.read.Answer.{Answer}
 use Rattle.reading.specs.Views.{reading-in}
+use Rattle.reading.specs.Answers.{Reads}
+use Rattle.reading.proofs.Answering.{dimensions-room, scale-room}
 use Rattle.record.specs.Record.{record-of, written-over, buffer-after}
+use Rattle.record.specs.Recordable.{Recordable}
 
-module _ (n : ℕ) (s : List ℕ) (r : Reading) (e : reading-in s r ≡ reading n s) where
-  pub number-is : r .number ≡ reading n s .number
-  unfolding reading-in
-  number-is = ap (λ (x : spec.Reading). x .number) e
-
-  terms-are : terms-in s (r .count) (r .terms) ≡ reading n s .terms
-  unfolding reading-in
-  terms-are = ap (λ (x : spec.Reading). x .terms) e
-
-  pub counted : r .count ≡ length (reading n s .terms) → r .count ≡ length (take (r .count) (r .terms))
-  counted q = q ∙ ap length (sym terms-are) ∙ length-map (take (r .count) (r .terms)) (term-in s)
-
+module _ {n : ℕ} {s : List ℕ} {t : Lent} {x : List ℕ} {ds cs : List ℤ} {r : Answer} (w : Reads n s t x ds cs r) where
   -- a refusal changes no byte
   pub refused : (b : List ℕ) → r .number ≢ 0 → b ≡ buffer-after (reading n s) b
   unfolding buffer-after
-  refused b h = rw (← number-is, ne-eqb (r .number) 0 h)
+  refused b h = rw (← w .number, ne-eqb (r .number) 0 h)
 
-  -- an accepted reading writes its record
-  pub accepted : (b : List ℕ) {c xs : List ℕ} → r .number ≡ 0 → ((s : List ℕ) → xs ≡ record-of (reading-in s r)) → c ≡ written-over xs b
-      → c ≡ buffer-after (reading n s) b
-  unfolding buffer-after
-  accepted b h q w = w ∙ rw (q s, e, ← number-is, eq-eqb (r .number) 0 h)
+  module _ (zero : r .number ≡ 0) where
+    pub recordable : Recordable t ds cs
+    recordable = let v = w .within zero in record {
+      few = v .few;
+      sized = λ i h. let a = all-in-at t (count t) i (v .inside) h in record { forward = a .forward; short = omega (arith, a .within, v .short) };
+      dimensions = dimensions-room w zero;
+      scale = scale-room w zero;
+    }
+
+    -- an accepted reading writes its record
+    pub accepted : (b : List ℕ) {c : List ℕ} → ((s : List ℕ) → c ≡ written-over (record-of (reading-in s t x ds cs r)) b)
+        → c ≡ buffer-after (reading n s) b
+    unfolding buffer-after
+    accepted b q = q s ∙ rw (w .is zero, ← w .number, eq-eqb (r .number) 0 zero)

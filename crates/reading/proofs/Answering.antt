@@ -1,83 +1,106 @@
 -- What reading a label answers: one law for each way through the code.
 use Prim.Native.Nat.{ℕ, _≤_, _<_, _^_}
 use native.Mathlib.Omega.{arith}
-use mathlib.Core.Path.{_≡_, refl, sym, _∙_}
+use mathlib.Core.Path.{_≡_, refl, sym, ap, _∙_}
 use mathlib.Core.Bool.{true, false, not}
 use mathlib.Core.List.{List, map}
 use lib.IntN.{ℤ}
-use lib.ListN.{length, take, length-map}
-use lib.Seq.{length-take-le}
+use lib.ListN.{length, getD, length-map}
 use borrow.Author.Tests.{not-true, not-false}
 use Rattle.label.specs.declared.Tens.{Tens}
-use Rattle.label.specs.Reading.{exponent, dimensions-of, scale-of, term, refusal, reading-of, answered, reading}
-use Rattle.descent.specs.declared.terms.Terms.{Terms}
-use Rattle.descent.specs.Terms.{placed-in, AllIn}
-use Rattle.content.specs.declared.term.Term.{Term}
+use Rattle.label.specs.Reading.{exponent, up-to, dimensions-of, scale-of, refusal, reading-of, answered, reading, refuse, checked}
+use Rattle.label.specs.Reading as spec
+use Rattle.label.proofs.Refusals.{bounds, Outcome, outcome}
+use Rattle.descent.specs.Terms.{Lent, lent, count}
 use Rattle.content.specs.declared.verdicts.Verdicts.{Verdicts}
 use Rattle.checks.specs.declared.check.Checked.{Checked}
-use Rattle.reading.specs.declared.read.Reading.{Reading}
-use Rattle.content.specs.Views.{terms-in}
-use Rattle.reading.specs.Views.{reading-in}
-use Rattle.content.specs.Named.{AllNamed}
+use Rattle.reading.specs.declared.read.Answer.{Answer}
+use Rattle.content.specs.Views.{term-in, terms-in}
+use Rattle.content.specs.Named.{Nameable, AllNamed}
 use Rattle.content.specs.Verdicts.{VerdictsOn}
-use Rattle.checks.specs.Checks.{units-in, Checks}
-use Rattle.reading.specs.Answers.{Accepted}
+use Rattle.content.proofs.Naming.{terms-length, nth-term}
+use Rattle.checks.specs.Checks.{Checks}
+use Rattle.reading.proofs.Lettering.{AllLettered, reading-lettered, letters-some}
+use Rattle.reading.specs.Views.{reading-in}
+use Rattle.reading.specs.Answers.{answer, Accepted, Reads}
 
-pub accepted₁ : {n : ℕ} {s : List ℕ} {k : Tens} {t : Terms} {terms : List Term} {v : Verdicts} {ds cs : List ℤ} → AllNamed n s t terms
-    → ((s : List ℕ) → VerdictsOn n (terms-in s (t .count) terms) v)
-    → ((s : List ℕ) → map exponent ds ≡ dimensions-of (terms-in s (t .count) terms))
-    → ((s : List ℕ) → map exponent cs ≡ scale-of k (terms-in s (t .count) terms))
-    → Accepted n s k t (record {
-      number = 0;
-      k = k;
-      count = t .count;
-      terms = terms;
-      known = v .known;
-      lawful = v .lawful;
-      recommended = v .recommended;
-      dimensions = ds;
-      scale = cs;
-    })
+pub accepted₁ : {n : ℕ} {s p : List ℕ} {k : Tens} {e : List ℤ} {x : List ℕ} {v : Verdicts} {ds cs : List ℤ} → AllNamed n s (lent p e) x
+    → ((s : List ℕ) (t : Lent) → VerdictsOn n (terms-in s t x (count (lent p e))) v)
+    → ((s p' : List ℕ) → map exponent ds ≡ dimensions-of (terms-in s (lent p' e) x (count (lent p e))))
+    → ((s p' : List ℕ) → map exponent cs ≡ scale-of k (terms-in s (lent p' e) x (count (lent p e))))
+    → Accepted n s k (lent p e) x ds cs v
 unfolding reading-in reading-of
-accepted₁ {n} {s} w v d c = record { is = rw (v s .known-is, v s .lawful-is, v s .recommended-is, d s, c s, w .is); count-is = refl }
+accepted₁ {n} {s} {p} {k} {e} w v d c = record {
+  is = rw (v s (lent p e) .known-is, v s (lent p e) .lawful-is, v s (lent p e) .recommended-is, d s p, c s p, w .is);
+  letters = w .letters;
+}
 
-module _ {n : ℕ} {s : List ℕ} {c : Checked} (w : Checks n s c) where
-  pub read₁ : (r : Reading) → not (c .ok) ≡ true → ((s : List ℕ) → reading-in s r ≡ refusal (c .number)) → reading-in s r ≡ reading n s
-  unfolding reading answered
-  read₁ r t e = e s ∙ sym (rw (w .is, not-true (c .ok) t))
+-- a refusal has a number
+refused-number : (n : ℕ) (s : List ℕ) {i : ℕ} → checked n s ≡ refuse i → 1 ≤ i
+refused-number n s {i} e = go (rw e at (outcome n s))
+  where
+    go : Outcome n s (refuse i) → 1 ≤ i
+    go (Outcome.refusing r) = bounds (r .holds) .0
 
-  pub count₁ : (r : Reading) → not (c .ok) ≡ true → r .count ≡ 0 → r .count ≡ length (reading n s .terms)
-  unfolding reading answered refusal
-  count₁ r t e = rw (w .is, not-true (c .ok) t) e
+module _ {n : ℕ} {s : List ℕ} {z : Lent} {c : Checked} (w : Checks n s z c) where
+  module _ (t : not (c .ok) ≡ true) where
+    refuses : checked n s ≡ refuse (c .number)
+    refuses = w .is ∙ rw (not-true (c .ok) t)
+
+    pub read₁ : {x : List ℕ} {ds cs : List ℤ} {r : Answer} → r .number ≡ c .number → Reads n s z x ds cs r
+    unfolding reading answered refusal
+    read₁ e = let h = refused-number n s refuses in record {
+      number = e ∙ sym (rw refuses);
+      is = λ q. absurd (omega arith);
+      counted = λ q. absurd (omega arith);
+      within = λ q. absurd (omega arith);
+      letters = λ q. absurd (omega arith);
+    }
 
   module _ (t : not (c .ok) ≡ false) where
     pub read-small : n < 2 ^ 8
     read-small = omega (arith, w .small (not-false (c .ok) t))
 
-    pub read-few : c .terms .count ≤ 32
-    read-few = w .few (not-false (c .ok) t)
+    pub read-nameable : Nameable s z
+    read-nameable = let y = not-false (c .ok) t in record { short = w .short y; few = w .few y; inside = w .inside y }
 
-    pub read-room : length (c .terms .kept) ≡ 32
-    read-room = w .room (not-false (c .ok) t)
+    pub read₂ : {x : List ℕ} {ds cs : List ℤ} {v : Verdicts} → Accepted n s (c .k) z x ds cs v → Reads n s z x ds cs (answer (c .k) v)
+    unfolding reading answered reading-of reading-in
+    read₂ {x} {ds} {cs} {v} a = record {
+      number = ap (λ (u : spec.Reading). u .number) whole;
+      is = λ q. whole;
+      counted = λ q. sym (terms-length s z x (count z)) ∙ ap (λ (u : spec.Reading). length (u .terms)) whole;
+      within = λ q. read-nameable;
+      letters = λ q i h u.
+          let l = a .letters i h u in
+          record { from = l .from; some = letters-some s z x (count z) i all-lettered h u; upto = l .upto };
+    }
+      where
+        whole : reading-in s z x ds cs (answer (c .k) v) ≡ reading n s
+        whole = a .is ∙ sym (rw (w .is, not-false (c .ok) t))
 
-    pub read-inside : AllIn s (take (c .terms .count) (c .terms .kept))
-    read-inside = w .inside (not-false (c .ok) t)
+        all-lettered : AllLettered (terms-in s z x (count z))
+        all-lettered = rw (← ap (λ (u : spec.Reading). u .terms) whole) at (reading-lettered n s)
 
-    pub read₂ : {r : Reading} → Accepted n s (c .k) (c .terms) r → reading-in s r ≡ reading n s
-    unfolding reading answered
-    read₂ a = a .is ∙ sym (rw (w .is, not-false (c .ok) t))
+-- WHAT THE ARRAYS HOLD
 
-    units-count : length (units-in s (c .terms)) ≡ c .terms .count
-    units-count =
-        length-map (take (c .terms .count) (c .terms .kept)) (placed-in s)
-        ∙ length-take-le (c .terms .count) (c .terms .kept) (omega (arith, read-few, read-room))
+-- term i of the reading, by the arrays
+pub term-read : {n : ℕ} {s : List ℕ} {t : Lent} {x : List ℕ} {ds cs : List ℤ} {r : Answer} → Reads n s t x ds cs r → r .number ≡ 0
+    → (i : ℕ) (d : spec.Term) → i < count t → getD (reading n s .terms) i d ≡ term-in s t x i
+unfolding reading-in
+term-read {n} {s} {t} {x} w zero i d h =
+    ap (λ (u : spec.Reading). getD (u .terms) i d) (sym (w .is zero)) ∙ nth-term s t x (count t) i d h
 
-    terms-count : length (reading n s .terms) ≡ c .terms .count
-    unfolding reading answered reading-of
-    terms-count = rw (w .is, not-false (c .ok) t) (length-map (units-in s (c .terms)) (term n (length s)) ∙ units-count)
+rooms : (n : ℕ) (s : List ℕ) (c : spec.Checked) → (length (answered n s c .dimensions) ≡ 32) × (length (answered n s c .scale) ≡ 4)
+unfolding answered refusal reading-of dimensions-of scale-of up-to
+rooms n s (spec.refuse i) = (refl, refl)
+rooms n s (spec.accept v) = (refl, refl)
 
-    pub few₂ : {r : Reading} → Accepted n s (c .k) (c .terms) r → r .count ≤ 32
-    few₂ a = rw (a .count-is) read-few
+module _ {n : ℕ} {s : List ℕ} {t : Lent} {x : List ℕ} {ds cs : List ℤ} {r : Answer} (w : Reads n s t x ds cs r) (zero : r .number ≡ 0) where
+  pub dimensions-room : length ds ≡ 32
+  unfolding reading reading-in
+  dimensions-room = sym (length-map ds exponent) ∙ ap (λ (u : spec.Reading). length (u .dimensions)) (w .is zero) ∙ rooms n s (checked n s) .0
 
-    pub count₂ : {r : Reading} → Accepted n s (c .k) (c .terms) r → r .count ≡ length (reading n s .terms)
-    count₂ a = a .count-is ∙ sym terms-count
+  pub scale-room : length cs ≡ 4
+  unfolding reading reading-in
+  scale-room = sym (length-map cs exponent) ∙ ap (λ (u : spec.Reading). length (u .scale)) (w .is zero) ∙ rooms n s (checked n s) .1

@@ -1,16 +1,45 @@
--- The reading of a label that no refusal is due for.
-use Prim.Native.Nat.{ℕ}
+-- What the functions that read a label answer.
+use Prim.Native.Nat.{ℕ, _+_, _≤_, _<_}
 use mathlib.Core.Path.{_≡_}
 use mathlib.Core.List.{List, map}
-use lib.ListN.{length}
+use lib.IntN.{ℤ}
+use lib.ListN.{length, getD}
 use Rattle.label.specs.declared.Tens.{Tens}
-use Rattle.label.specs.Reading.{term, reading-of}
-use Rattle.descent.specs.declared.terms.Terms.{Terms}
-use Rattle.reading.specs.declared.read.Reading.{Reading}
-use Rattle.reading.specs.Views.{reading-in}
+use Rattle.label.specs.Reading.{term, reading-of, reading}
+use Rattle.descent.specs.Terms.{Lent, count, Empty}
 use Rattle.checks.specs.Checks.{units-in}
+use Rattle.content.specs.declared.verdicts.Verdicts.{Verdicts}
+use Rattle.content.specs.Named.{Nameable, LettersIn}
+use Rattle.content.specs.Sums.{zeros}
+use Rattle.reading.specs.declared.read.Answer.{Answer}
+use Rattle.reading.specs.Views.{reading-in}
 
--- the terms and their count are those of the label
-pub record Accepted (n : ℕ) (s : List ℕ) (k : Tens) (t : Terms) (r : Reading) : Type 0 where
-  pub is : reading-in s r ≡ reading-of n k (map (term n (length s)) (units-in s t))
-  pub count-is : r .count ≡ t .count
+-- arrays to read into: no term yet, and sums of nothing
+pub record Fresh (t : Lent) (x : List ℕ) (ds cs : List ℤ) : Type 0 where
+  pub terms : Empty t
+  pub names : length x ≡ 128
+  pub dimensions : ds ≡ zeros 32
+  pub scale : cs ≡ zeros 4
+
+abbrev pub answer : Tens → Verdicts → Answer
+answer k v = record { number = 0; k = k; known = v .known; lawful = v .lawful; recommended = v .recommended }
+
+-- a label that no refusal is due for
+pub record Accepted (n : ℕ) (s : List ℕ) (k : Tens) (t : Lent) (x : List ℕ) (ds cs : List ℤ) (v : Verdicts) : Type 0 where
+  pub is : reading-in s t x ds cs (answer k v) ≡ reading-of n k (map (term n (length s)) (units-in s t))
+  pub letters : (i : ℕ) → i < count t → getD x (32 + i) 0 ≡ 0 → LettersIn t x i
+
+-- the letters of the unknown unit of term i, one or more, stand in the term's spelling
+pub record Lettered (t : Lent) (x : List ℕ) (i : ℕ) : Type 0 where
+  pub from : getD (t .places) i 0 ≤ getD x (64 + i) 0
+  pub some : getD x (64 + i) 0 < getD x (96 + i) 0
+  pub upto : getD x (96 + i) 0 ≤ getD (t .places) (32 + i) 0
+
+-- "what reading the text s in notation n answers": the number; and where it is 0, all else. Then there are at most 32 terms, whose
+-- spellings stand in the label, and the letters of an unknown unit stand in its term's spelling.
+pub record Reads (n : ℕ) (s : List ℕ) (t : Lent) (x : List ℕ) (ds cs : List ℤ) (r : Answer) : Type 0 where
+  pub number : r .number ≡ reading n s .number
+  pub is : r .number ≡ 0 → reading-in s t x ds cs r ≡ reading n s
+  pub counted : r .number ≡ 0 → count t ≡ length (reading n s .terms)
+  pub within : r .number ≡ 0 → Nameable s t
+  pub letters : r .number ≡ 0 → (i : ℕ) → i < count t → getD x (32 + i) 0 ≡ 0 → Lettered t x i

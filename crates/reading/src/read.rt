@@ -2,11 +2,9 @@
 use checks::check::check;
 use content::dimensions::dimensions;
 use content::named::all_named;
-use content::named::no_term;
 use content::scale::scale;
-use content::term::Term;
+use content::verdicts::Verdicts;
 use content::verdicts::verdicts_on;
-use descent::terms::Terms;
 use label::Tens;
 use symbols::tables::prefix_powers;
 use symbols::tables::unit_bases;
@@ -14,85 +12,95 @@ use symbols::tables::unit_powers;
 use symbols::tables::unit_prefixed;
 use symbols::tables::unit_primes;
 use symbols::tables::unit_recommended;
-ghost use Prim.Native.Nat.{ℕ, _≤_};
 ghost use mathlib.Core.Path.{_≡_};
-ghost use mathlib.Core.List.{List, map};
-ghost use lib.ListN.{length, take};
-ghost use Rattle.label.specs.Reading.{reading};
-ghost use Rattle.label.specs.Reading as spec;
-ghost use Rattle.descent.specs.Terms.{AllIn};
-ghost use Rattle.reading.specs.Views.{reading-in};
-ghost use Rattle.reading.specs.Answers.{Accepted};
+ghost use lib.ListN.{length};
+ghost use Rattle.descent.specs.Terms.{lent};
+ghost use Rattle.content.specs.Named.{Nameable};
+ghost use Rattle.content.specs.Sums.{zeros};
+ghost use Rattle.reading.specs.Answers.{Fresh, Accepted, Reads};
 
-pub struct Reading {
+// What a reading has beside its arrays.
+pub struct Answer {
     // 0, or the number of the refusal.
     pub number: u8,
     pub k: Tens,
-    pub count: usize,
-    // The first `count` are the label's.
-    pub terms: [Term; 32],
     pub known: bool,
     pub lawful: bool,
     pub recommended: bool,
-    // The exponent of each base, by its number.
-    pub dimensions: [i64; 32],
-    // The exponents of 2, 3, 5 and 487.
-    pub scale: [i64; 4],
 }
 
-// The empty reading of refusal `i`.
-pub fn refusal(i: u8) -> Reading
-    ensures { λ r. ⌜ ((s : List ℕ) → reading-in s r ≡ spec.refusal i) ⌝ }
-    ensures { λ r. ⌜ r .count ≡ 0 ⌝ }
+// The verdicts on a label that no refusal is due for. What its terms' spellings stand for, the exponent of each base and the exponents of
+// 2, 3, 5 and 487 come into the lent arrays.
+pub fn accepted(
+    n: u8,
+    s: &[u8],
+    k: Tens,
+    places: &[usize; 66],
+    exponents: &[i32; 32],
+    names: &mut [u8; 128],
+    bases: &mut [i64; 32],
+    primes: &mut [i64; 4],
+) -> Verdicts
+    requires { ⌜ Nameable (now s) (lent (now places) (now exponents)) ⌝ }
+    requires { ⌜ (length (now names) ≡ 128) × ((now bases ≡ zeros 32) × (now primes ≡ zeros 4)) ⌝ }
+    ensures { λ r. ⌜ Accepted n (now (s .entry)) k (lent (now (places .entry)) (now (exponents .entry)))
+        (now (names .exit)) (now (bases .exit)) (now (primes .exit)) r ⌝ }
 {
-    Reading {
-        number: i,
-        k: Tens(0),
-        count: 0,
-        terms: [no_term(); 32],
-        known: false,
-        lawful: false,
-        recommended: false,
-        dimensions: [0; 32],
-        scale: [0; 4],
-    }
-}
-
-// The reading of a label that no refusal is due for.
-pub fn accepted(n: u8, s: &[u8], k: Tens, t: Terms) -> Reading
-    requires { ⌜ t .count ≤ 32 ⌝ }
-    requires { ⌜ length (t .kept) ≡ 32 ⌝ }
-    requires { ⌜ AllIn (now s) (take (t .count) (t .kept)) ⌝ }
-    ensures { λ r. ⌜ Accepted n (now (s .entry)) k t r ⌝ }
-{
-    let count = t.count;
-    let terms = all_named(n, s, t);
-    let verdicts = verdicts_on(&unit_prefixed(), &unit_recommended(), n, count, terms);
-    let dimensions = dimensions(&unit_bases(), &unit_powers(), count, terms);
-    let scale = scale(&prefix_powers(), &unit_primes(), k, count, terms);
-    Reading {
-        number: 0,
+    let count = places[64];
+    all_named(n, s, places, exponents, names);
+    dimensions(
+        &unit_bases(),
+        &unit_powers(),
+        count,
+        exponents,
+        names,
+        bases,
+    );
+    scale(
+        &prefix_powers(),
+        &unit_primes(),
         k,
         count,
-        terms,
-        known: verdicts.known,
-        lawful: verdicts.lawful,
-        recommended: verdicts.recommended,
-        dimensions,
-        scale,
-    }
+        exponents,
+        names,
+        primes,
+    );
+    verdicts_on(&unit_prefixed(), &unit_recommended(), n, count, names)
 }
 
-// What reading the text `s` in notation `n` answers, for any number and any bytes.
-pub fn read(n: u32, s: &[u8]) -> Reading
-    ensures { λ r. ⌜ reading-in (now (s .entry)) r ≡ reading n (now (s .entry)) ⌝ }
-    ensures { λ r. ⌜ (r .count ≤ 32) × (r .count ≡ length (reading n (now (s .entry)) .terms)) ⌝ }
+// What reading the text `s` in notation `n` answers, for any number and any bytes. Where it is no refusal, the arrays hold the rest of the
+// reading: `places` and `exponents` the terms (see descent::terms), `names` what their spellings stand for (see content::named), `bases` the
+// exponent of each base, by its number, and `primes` the exponents of 2, 3, 5 and 487.
+pub fn read(
+    n: u32,
+    s: &[u8],
+    places: &mut [usize; 66],
+    exponents: &mut [i32; 32],
+    names: &mut [u8; 128],
+    bases: &mut [i64; 32],
+    primes: &mut [i64; 4],
+) -> Answer
+    requires { ⌜ Fresh (lent (now places) (now exponents)) (now names) (now bases) (now primes) ⌝ }
+    ensures { λ r. ⌜ Reads n (now (s .entry)) (lent (now (places .exit)) (now (exponents .exit)))
+        (now (names .exit)) (now (bases .exit)) (now (primes .exit)) r ⌝ }
 {
-    let c = check(n, s);
-    if !c.ok {
-        return refusal(c.number);
-    }
+    let c = check(n, s, places, exponents);
     let k = c.k;
-    let terms = c.terms;
-    accepted(n as u8, s, k, terms)
+    if !c.ok {
+        return Answer {
+            number: c.number,
+            k,
+            known: false,
+            lawful: false,
+            recommended: false,
+        };
+    }
+    let v = accepted(n as u8, s, k, places, exponents, names, bases, primes);
+    Answer {
+        number: 0,
+        k,
+        known: v.known,
+        lawful: v.lawful,
+        recommended: v.recommended,
+    }
 }

@@ -1,69 +1,69 @@
 -- The numbers of a reading, as the machine holds them.
-use Prim.Native.Nat.{ℕ, zero, suc, _<_, _≤_, _^_}
+use Prim.Native.Nat.{ℕ, zero, suc, _+_, _-_, _<_, _≤_, _^_}
 use native.Mathlib.Omega.{arith}
-use native.Mathlib.Numerals.{add-one}
-use mathlib.Core.Path.{_≡_, refl, _∙_}
+use mathlib.Core.Path.{_≡_, refl}
 use mathlib.Core.Bool.{Bool, true, false}
 use mathlib.Core.List.{List, [], _∷_}
-use lib.IntN.{ℤ, pos, _+ℤ_}
+use lib.IntN.{ℤ, pos}
 use mir.Syntax.{w32, w64}
 use mir.Val.{SFits, toZ, ofZ}
-use mir.Facts.{toZ-ofZ, toZ-pos}
-use Rattle.symbols.specs.declared.Symbol.{Symbol}
-use Rattle.symbols.specs.Views.{place, symbol-in}
-use Rattle.content.specs.declared.term.Term.{Term}
-use Rattle.content.specs.Views.{term-in}
+use mir.Facts.{toZ-pos}
+use lib.ListN.{getD}
+use Rattle.label.specs.Ranges.{between}
+use Rattle.symbols.specs.Views.{place}
+use Rattle.descent.specs.Terms.{lent}
+use Rattle.content.specs.Views.{by-code, symbol-at, term-in}
 use Rattle.content.proofs.Integers.{widened-is}
 use Rattle.label.specs.declared.Tens.{Tens}
 use Rattle.record.specs.Record.{flag, code, prefix-code, unit-code, term-fields, head-of}
+use Rattle.record.specs.Recordable.{Sized}
 
 held : (n : ℕ) → n < 2 ^ 63 → toZ w64 n ≡ pos n
 held n h = toZ-pos w64 h
 
 -- UNITS AND PREFIXES
 
-module _ {u : ℕ} (h : u < 2 ^ 8) where
-  next-is : toZ w64 u +ℤ pos 1 ≡ pos (suc u)
-  next-is = rw (held u (omega (arith, h)), add-one u)
-
-  pub next-fits : SFits w64 (toZ w64 u +ℤ pos 1)
-  next-fits = rw next-is (record { sfits = omega (arith, h) })
-
-  next-held : toZ w64 (ofZ w64 (toZ w64 u +ℤ pos 1)) ≡ pos (suc u)
-  next-held = toZ-ofZ next-fits ∙ next-is
-
-pub known-code : (x : Symbol) → x .known ≡ true → x .unit < 2 ^ 8 → (s : List ℕ)
-    → toZ w64 (ofZ w64 (toZ w64 (x .unit) +ℤ pos 1)) ≡ pos (unit-code (symbol-in s x))
-unfolding symbol-in unit-code
-known-code x k h s = rw (next-held h, k)
-
-pub unknown-code : (x : Symbol) → x .known ≡ false → (s : List ℕ) → pos 0 ≡ pos (unit-code (symbol-in s x))
-unfolding symbol-in unit-code
-unknown-code x k s = rw k
-
 code-place : (p : ℕ) → code (place p) ≡ p
 unfolding place
 code-place zero = refl
 code-place (suc p) = refl
 
-prefix-is : (x : Symbol) (s : List ℕ) → prefix-code (symbol-in s x) ≡ x .prefix
-unfolding symbol-in prefix-code
-prefix-is x s = go (x .known)
-  where
-    go : (k : Bool) → prefix-code (symbol-in s (record { known = k; prefix = x .prefix; unit = x .unit; start = x .start; end = x .end })) ≡ x .prefix
-    go true = code-place (x .prefix)
-    go false = code-place (x .prefix)
+module _ (s x : List ℕ) (i : ℕ) where
+  prefix-is : prefix-code (symbol-at s x i) ≡ getD x i 0
+  unfolding symbol-at by-code prefix-code
+  prefix-is = go (getD x (32 + i) 0) (getD x i 0)
+    where
+      go : (u p : ℕ) → prefix-code (by-code u (place p) (between s (getD x (64 + i) 0) (getD x (96 + i) 0))) ≡ p
+      go zero p = code-place p
+      go (suc u) p = code-place p
+
+  unit-is : unit-code (symbol-at s x i) ≡ getD x (32 + i) 0
+  unfolding symbol-at by-code unit-code
+  unit-is = go (getD x (32 + i) 0)
+    where
+      go : (u : ℕ) → unit-code (by-code u (place (getD x i 0)) (between s (getD x (64 + i) 0) (getD x (96 + i) 0))) ≡ u
+      go zero = refl
+      go (suc u) = refl
 
 -- TERMS
 
-module _ (t : Term) where
-  pub term-is : t .symbol .prefix < 2 ^ 8 → SFits w32 (t .exponent .0) → t .start < 2 ^ 8 → t .size < 2 ^ 8 → {u : ℤ}
-      → SFits w64 u → ((s : List ℕ) → u ≡ pos (unit-code (symbol-in s (t .symbol)))) → (s : List ℕ)
-      → toZ w64 (t .symbol .prefix) ∷ toZ w64 (ofZ w64 u) ∷ toZ w64 (ofZ w64 (toZ w32 (ofZ w32 (t .exponent .0)))) ∷ toZ w64 (t .start) ∷ toZ w64 (t .size) ∷ [] ≡ term-fields (term-in s t)
+module _ {p : List ℕ} {e : List ℤ} (x : List ℕ) {i : ℕ} (h : Sized (lent p e) i) {u v : ℕ} where
+  pub term-is : u < 2 ^ 8 → v < 2 ^ 8 → u ≡ getD x i 0 → v ≡ getD x (32 + i) 0 → SFits w32 (getD e i (pos 0)) → (s : List ℕ)
+      → toZ w64 u ∷ toZ w64 v ∷ toZ w64 (ofZ w64 (toZ w32 (ofZ w32 (getD e i (pos 0))))) ∷ toZ w64 (getD p i 0) ∷ toZ w64 (getD p (32 + i) 0 - getD p i 0) ∷ []
+      ≡ term-fields (term-in s (lent p e) x i)
   unfolding term-fields
-  term-is p e a z f q s =
-      rw
-      (held (t .symbol .prefix) (omega (arith, p)), toZ-ofZ f, q s, widened-is e, held (t .start) (omega (arith, a)), held (t .size) (omega (arith, z)), prefix-is (t .symbol) s)
+  term-is f g q r w s =
+      rw (
+        held u (omega (arith, f)),
+        held v (omega (arith, g)),
+        q,
+        r,
+        widened-is w,
+        held (getD p i 0) (omega (arith, h .forward, h .short)),
+        held (getD p (32 + i) 0 - getD p i 0) (omega (arith, h .short)),
+        prefix-is s x i,
+        unit-is s x i,
+      )
 
 -- THE HEAD
 

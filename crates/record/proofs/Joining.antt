@@ -2,15 +2,19 @@
 use Prim.Native.Nat.{ℕ, zero, suc, _+_, _*_, _-_, _<_, _≤_}
 use native.Mathlib.Omega.{arith}
 use mathlib.Core.Path.{_≡_, refl, sym, ap, _∙_}
-use mathlib.Core.List.{List, [], _∷_, _++_, append-assoc, append-nil}
+use mathlib.Core.List.{List, [], _∷_, _++_, map, append-assoc, append-nil}
 use lib.IntN.{ℤ}
-use lib.ListN.{length, take, getD}
+use lib.ListN.{length, take}
 use lib.Seq.{take-all}
 use Rattle.label.specs.Reading as spec
-use Rattle.content.specs.declared.term.Term.{Term}
+use Rattle.label.specs.Reading.{exponent}
+use Rattle.descent.specs.Terms.{Lent, count}
 use Rattle.content.specs.Views.{term-in, terms-in}
-use Rattle.content.proofs.TermLaws.{one-more}
-use Rattle.record.specs.Record.{eight, encoded, no-fields, term-fields, terms-fields, empty-fields}
+use Rattle.content.proofs.Naming.{terms-length}
+use Rattle.content.proofs.Naming.{terms-more as one-more}
+use Rattle.reading.specs.declared.read.Answer.{Answer}
+use Rattle.reading.specs.Views.{reading-in}
+use Rattle.record.specs.Record.{eight, encoded, no-fields, term-fields, terms-fields, empty-fields, sixtieths, head-of, head-fields, fields, record-of}
 
 pub encoded-join : (xs ys : List ℤ) → encoded (xs ++ ys) ≡ encoded xs ++ encoded ys
 unfolding encoded
@@ -29,25 +33,25 @@ unfolding term-fields
 five t = refl
 
 -- the first i terms are written
-pub record TermsPut (b₀ : List ℕ) (terms : List Term) (b : List ℕ) (i : ℕ) : Type 0 where
+pub record TermsPut (b₀ : List ℕ) (t : Lent) (x b : List ℕ) (i : ℕ) : Type 0 where
   pub room : length b ≡ length b₀
-  pub bytes : (s : List ℕ) → take (48 + 40 * i) b ≡ take 48 b₀ ++ encoded (terms-fields (terms-in s i terms))
+  pub bytes : (s : List ℕ) → take (48 + 40 * i) b ≡ take 48 b₀ ++ encoded (terms-fields (terms-in s t x i))
 
-pub terms₀ : (b : List ℕ) (terms : List Term) → TermsPut b terms b 0
-unfolding encoded terms-fields
-terms₀ b terms = record { room = refl; bytes = λ s. sym (append-nil (take 48 b)) }
+pub terms₀ : (b : List ℕ) (t : Lent) (x : List ℕ) → TermsPut b t x b 0
+unfolding encoded terms-fields terms-in
+terms₀ b t x = record { room = refl; bytes = λ s. sym (append-nil (take 48 b)) }
 
-pub terms-step : {b₀ : List ℕ} (terms : List Term) (b c : List ℕ) (i : ℕ) (d : Term) (f : List ℤ) → TermsPut b₀ terms b i → i < length terms → length c ≡ length b
-    → ((s : List ℕ) → f ≡ term-fields (term-in s (getD terms i d)))
+pub terms-step : {b₀ : List ℕ} {t : Lent} {x : List ℕ} (b c : List ℕ) (i : ℕ) (f : List ℤ) → TermsPut b₀ t x b i → length c ≡ length b
+    → ((s : List ℕ) → f ≡ term-fields (term-in s t x i))
     → take (48 + 40 * i + 8 * length f) c ≡ take (48 + 40 * i) b ++ encoded f
-    → TermsPut b₀ terms c (i + 1)
-terms-step {b₀} terms b c i d f p h l q e = record {
+    → TermsPut b₀ t x c (i + 1)
+terms-step {b₀} {t} {x} b c i f p l q e = record {
   room = l ∙ p .room;
   bytes = λ s.
-      let z : 48 + 40 * (i + 1) ≡ 48 + 40 * i + 8 * length f = omega (arith, ap length (q s), five (term-in s (getD terms i d))) in
-      let ts = terms-in s i terms in
-      let t = term-in s (getD terms i d) in
-      rw (z, e, p .bytes s, one-more s terms i d h, terms-more ts t, encoded-join (terms-fields ts) (term-fields t), ← q s)
+      let z : 48 + 40 * (i + 1) ≡ 48 + 40 * i + 8 * length f = omega (arith, ap length (q s), five (term-in s t x i)) in
+      let ts = terms-in s t x i in
+      let y = term-in s t x i in
+      rw (z, e, p .bytes s, one-more s t x i, terms-more ts y, encoded-join (terms-fields ts) (term-fields y), ← q s)
       (append-assoc (take 48 b₀) (encoded (terms-fields ts)) (encoded f));
 }
 
@@ -95,28 +99,40 @@ empty-done b i p h =
 to-left : (a b c d e : List ℕ) → a ++ (b ++ (c ++ (d ++ e))) ≡ a ++ b ++ c ++ d ++ e
 to-left a b c d e = sym (append-assoc a b (c ++ (d ++ e))) ∙ sym (append-assoc (a ++ b) c (d ++ e)) ∙ sym (append-assoc (a ++ b ++ c) d e)
 
-module _ (head dimensions scale : List ℤ) (count : ℕ) (terms : List Term) (b₁ b₂ b₃ b₄ b₅ : List ℕ) where
+module _ (head ts dimensions scale : List ℤ) (count : ℕ) (b₀ b₁ b₂ b₃ b₄ b₅ : List ℕ) where
   pub joined-is : length head ≡ 6 → length dimensions ≡ 32 → length scale ≡ 4 → length b₅ ≡ 1616
-      → take (0 + 8 * length head) b₁ ≡ encoded head
-      → ((s : List ℕ) → take (48 + 40 * count) b₂ ≡ take 48 b₁ ++ encoded (terms-fields (terms-in s count terms)))
+      → take (0 + 8 * length head) b₁ ≡ take 0 b₀ ++ encoded head
+      → take (48 + 40 * count) b₂ ≡ take 48 b₁ ++ encoded ts
       → take 1328 b₃ ≡ take (48 + 40 * count) b₂ ++ encoded (empty-fields (32 - count))
       → take (1328 + 8 * length dimensions) b₄ ≡ take 1328 b₃ ++ encoded dimensions
       → take (1584 + 8 * length scale) b₅ ≡ take 1584 b₄ ++ encoded scale
-      → (s : List ℕ) → b₅ ≡ encoded (head ++ (terms-fields (terms-in s count terms) ++ (empty-fields (32 - count) ++ (dimensions ++ scale))))
-  joined-is h d c l e₁ e₂ e₃ e₄ e₅ s =
+      → b₅ ≡ encoded (head ++ (ts ++ (empty-fields (32 - count) ++ (dimensions ++ scale))))
+  joined-is h d c l e₁ e₂ e₃ e₄ e₅ =
       let x₁ : 0 + 8 * length head ≡ 48 = omega (arith, h) in
       let x₄ : 1328 + 8 * length dimensions ≡ 1584 = omega (arith, d) in
       let x₅ : 1584 + 8 * length scale ≡ 1616 = omega (arith, c) in
-      let ts = terms-fields (terms-in s count terms) in
       let none = empty-fields (32 - count) in
       let y₁ : take 48 b₁ ≡ encoded head = rw x₁ at e₁ in
       let y₄ : take 1584 b₄ ≡ take 1328 b₃ ++ encoded dimensions = rw x₄ at e₄ in
       let y₅ : take 1616 b₅ ≡ take 1584 b₄ ++ encoded scale = rw x₅ at e₅ in
       sym (take-all 1616 b₅ (omega (arith, l)))
-      ∙ rw (y₅, y₄, e₃, e₂ s, y₁)
+      ∙ rw (y₅, y₄, e₃, e₂, y₁)
       (sym
       (encoded-join head (ts ++ (none ++ (dimensions ++ scale)))
       ∙ ap (λ (xs : List ℕ). encoded head ++ xs)
       (encoded-join ts (none ++ (dimensions ++ scale))
       ∙ ap (λ (xs : List ℕ). encoded ts ++ xs) (encoded-join none (dimensions ++ scale) ∙ ap (λ (xs : List ℕ). encoded none ++ xs) (encoded-join dimensions scale)))
       ∙ to-left (encoded head) (encoded ts) (encoded none) (encoded dimensions) (encoded scale)))
+
+-- THE RECORD
+
+same-sixtieths : (zs : List ℤ) → map sixtieths (map exponent zs) ≡ zs
+same-sixtieths [] = refl
+same-sixtieths (z ∷ zs) = ap (λ (xs : List ℤ). z ∷ xs) (same-sixtieths zs)
+
+-- the numbers of a reading, from its parts
+pub fields-are : (s : List ℕ) (t : Lent) (x : List ℕ) (ds cs : List ℤ) (a : Answer) {h : List ℤ}
+    → h ≡ head-of (a .number) (a .k) (a .known) (a .lawful) (a .recommended) (count t)
+    → encoded (h ++ (terms-fields (terms-in s t x (count t)) ++ (empty-fields (32 - count t) ++ (ds ++ cs)))) ≡ record-of (reading-in s t x ds cs a)
+unfolding reading-in head-fields fields record-of
+fields-are s t x ds cs a q = rw (q, terms-length s t x (count t), same-sixtieths ds, same-sixtieths cs)

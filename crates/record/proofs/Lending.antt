@@ -1,5 +1,6 @@
 -- A record written over a lent buffer that is shorter than it, and over any other.
 use Prim.Native.Nat.{ℕ, _≤_}
+use native.Mathlib.Omega.{arith}
 use native.Mathlib.Nat.{le-refl}
 use mathlib.Core.Path.{_≡_, _∙_}
 use mathlib.Core.List.{List, _++_}
@@ -16,6 +17,6 @@ module _ (xs b : List ℕ) where
   unfolding written-over
   over-short h e = e ∙ rw (take-length (take (length b) xs), front-length h, drop-of-length-le b (le-refl (length b)), drop-of-length-le b h)
 
-  pub over-long : {c : List ℕ} → length xs ≤ length b → c ≡ take (length xs) xs ++ drop (length xs) b → c ≡ written-over xs b
+  pub over-part : {c : List ℕ} → length xs ≡ 1616 → 1616 ≤ length b → c ≡ xs ++ drop 1616 b → c ≡ written-over xs b
   unfolding written-over
-  over-long h e = e ∙ rw (take-length xs, take-all (length b) xs h)
+  over-part h g e = e ∙ rw (h, take-all (length b) xs (omega (arith, h, g)))

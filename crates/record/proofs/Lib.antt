@@ -2,6 +2,5 @@ pub mod Fielding
 pub mod Joining
 pub mod Lending
 pub mod ReadingBack
-pub mod Recording
 pub mod Signed
 pub mod Writing

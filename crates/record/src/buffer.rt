@@ -1,15 +1,43 @@
 // The buffer that a caller lends.
+use crate::record::put_record;
+use reading::read::Answer;
 ghost use mathlib.Core.Path.{_≡_};
-ghost use Rattle.record.specs.Record.{written-over};
+ghost use mathlib.Core.List.{List};
+ghost use Prim.Native.Nat.{ℕ};
+ghost use Rattle.descent.specs.Terms.{lent};
+ghost use Rattle.reading.specs.Views.{reading-in};
+ghost use Rattle.record.specs.Record.{record-of, written-over};
+ghost use Rattle.record.specs.Recordable.{Recordable};
 
-// Writes the record over the buffer from its start, as far as it fits.
-pub fn write_over(written: [u8; 1616], buffer: &mut [u8])
-    ensures { λ _. ⌜ now (buffer .exit) ≡ written-over written (now (buffer .entry)) ⌝ }
+// Writes the record of a reading over the buffer from its start, as far as it fits.
+pub fn write_record(
+    buffer: &mut [u8],
+    a: Answer,
+    places: &[usize; 66],
+    exponents: &[i32; 32],
+    names: &[u8; 128],
+    bases: &[i64; 32],
+    primes: &[i64; 4],
+)
+    requires { ⌜ Recordable (lent (now places) (now exponents)) (now bases) (now primes) ⌝ }
+    ensures { λ _. ⌜ ((s : List ℕ) → now (buffer .exit) ≡ written-over (record-of (reading-in s
+        (lent (now (places .entry)) (now (exponents .entry))) (now (names .entry)) (now (bases .entry)) (now (primes .entry)) a))
+        (now (buffer .entry))) ⌝ }
 {
     if buffer.len() < 1616 {
+        let mut whole = [0; 1616];
+        put_record(&mut whole, a, places, exponents, names, bases, primes);
         let room = buffer.len();
-        bytes::copy(&written[..room], buffer);
-    } else {
-        bytes::copy(&written, buffer);
+        bytes::copy(&whole[..room], buffer);
+        return;
     }
+    put_record(
+        &mut buffer[..1616],
+        a,
+        places,
+        exponents,
+        names,
+        bases,
+        primes,
+    );
 }

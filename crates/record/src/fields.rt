@@ -1,12 +1,13 @@
 // The numbers of a reading.
-use content::term::Term;
-use label::Tens;
-ghost use Prim.Native.Nat.{ℕ, _≤_};
+use content::named::number_at;
+use reading::read::Answer;
+ghost use Prim.Native.Nat.{ℕ, _≤_, _<_};
 ghost use mathlib.Core.Path.{_≡_};
 ghost use mathlib.Core.List.{List};
-ghost use lib.IntN.{pos};
+ghost use Rattle.descent.specs.Terms.{lent};
 ghost use Rattle.content.specs.Views.{term-in};
 ghost use Rattle.record.specs.Record as spec;
+ghost use Rattle.record.specs.Recordable.{Sized};
 
 fn flag(b: bool) -> i64
     ensures { λ r. ⌜ r ≡ spec.flag b ⌝ }
@@ -17,49 +18,41 @@ fn flag(b: bool) -> i64
     0
 }
 
-// One more than the row of a known unit; 0 for an unknown one.
-fn unit_code(t: Term) -> i64
-    ensures { λ r. ⌜ ((s : List ℕ) → r ≡ pos (spec.unit-code (term-in s t .symbol))) ⌝ }
+// The numbers of term `i`.
+pub fn term_fields(
+    places: &[usize; 66],
+    exponents: &[i32; 32],
+    names: &[u8; 128],
+    i: usize,
+) -> [i64; 5]
+    requires { ⌜ (i < 32) × Sized (lent (now places) (now exponents)) i ⌝ }
+    ensures { λ r. ⌜ ((s : List ℕ) → r
+        ≡ spec.term-fields (term-in s (lent (now (places .entry)) (now (exponents .entry))) (now (names .entry)) i)) ⌝ }
 {
-    let x = t.symbol;
-    if x.known {
-        return x.unit as i64 + 1;
-    }
-    0
-}
-
-// The numbers of a term.
-pub fn term_fields(t: Term) -> [i64; 5]
-    ensures { λ r. ⌜ ((s : List ℕ) → r ≡ spec.term-fields (term-in s t)) ⌝ }
-{
-    let x = t.symbol;
-    let e = t.exponent;
+    let prefix = number_at(names, i);
+    let unit = number_at(names, 32 + i);
+    let start = places[i];
+    let end = places[32 + i];
     [
-        x.prefix as i64,
-        unit_code(t),
-        e.0 as i64,
-        t.start as i64,
-        t.size as i64,
+        prefix as i64,
+        unit as i64,
+        exponents[i] as i64,
+        start as i64,
+        (end - start) as i64,
     ]
 }
 
 // The numbers before the terms.
-pub fn head_fields(
-    number: u8,
-    k: Tens,
-    known: bool,
-    lawful: bool,
-    recommended: bool,
-    count: usize,
-) -> [i64; 6]
+pub fn head_fields(a: Answer, count: usize) -> [i64; 6]
     requires { ⌜ count ≤ 32 ⌝ }
-    ensures { λ r. ⌜ r ≡ spec.head-of number k known lawful recommended count ⌝ }
+    ensures { λ r. ⌜ r ≡ spec.head-of (a .number) (a .k) (a .known) (a .lawful) (a .recommended) count ⌝ }
 {
-    let known = flag(known);
-    let lawful = flag(lawful);
-    let recommended = flag(recommended);
+    let k = a.k;
+    let known = flag(a.known);
+    let lawful = flag(a.lawful);
+    let recommended = flag(a.recommended);
     [
-        number as i64,
+        a.number as i64,
         k.0 as i64,
         known,
         lawful,

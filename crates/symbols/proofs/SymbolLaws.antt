@@ -15,7 +15,8 @@ use Rattle.label.specs.Bytes.{run}
 use Rattle.label.specs.Prefixes.{prefix-named}
 use Rattle.label.specs.Ranges.{between}
 use Rattle.symbols.specs.declared.Cut.{Cut as Cutting}
-use Rattle.symbols.specs.Views.{place, behind, prefix-cut, unit-cut, CutAt, FirstQuote}
+use Rattle.symbols.specs.declared.Symbol.{Symbol as Coded}
+use Rattle.symbols.specs.Views.{place, behind, prefix-cut, unit-cut, Bounded, CutAt, FirstQuote}
 use Rattle.symbols.proofs.CutLaws.{cut-list, two-then-one}
 use Rattle.symbols.proofs.Parts.{part-none, part-cons, part-length, part-take, part-drop}
 
@@ -36,6 +37,10 @@ placed-at r h =
   where
     go : (k : ℕ) → r ≡ suc k → place r ≡ some k
     go k e = rw e
+
+-- letters in a part stand in the whole
+pub wider : {a b y z : ℕ} {x : Coded} → Bounded b y x → a ≤ b → y ≤ z → Bounded a z x
+wider w h g = record { row = w .row; from = λ e. omega (arith, w .from e); forward = w .forward; upto = omega (arith, w .upto) }
 
 -- what a spelling stands for whose whole is unknown: prefixes p, q and units u, v behind two letters and behind one
 unfoldable pub chosen : List ℕ → Option ℕ → Option ℕ → Option ℕ → Option ℕ → Symbol

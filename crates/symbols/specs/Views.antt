@@ -1,6 +1,7 @@
 -- What the numbers and structs of the code stand for.
-use Prim.Native.Nat.{ℕ, zero, suc, _≤_}
+use Prim.Native.Nat.{ℕ, zero, suc, _≤_, _<_}
 use mathlib.Core.Path.{_≡_}
+use mathlib.Core.Bool.{false}
 use mathlib.Core.List.{List, [], _∷_}
 use mathlib.Core.Option.{Option, none, some}
 use lib.ListN.{take, drop}
@@ -24,6 +25,13 @@ place (suc i) = some i
 unfoldable pub symbol-in : List ℕ → Symbol → spec.Symbol
 symbol-in s x =
     pick (x .known) (known (place (x .prefix)) (x .unit)) (unknown (place (x .prefix)) (between s (x .start) (x .end)))
+
+-- the letters of an unknown unit stand between start and end; and one more than a unit's row fits a byte
+pub record Bounded (start end : ℕ) (x : Symbol) : Type 0 where
+  pub row : x .unit < 255
+  pub from : x .known ≡ false → start ≤ x .start
+  pub forward : x .start ≤ x .end
+  pub upto : x .end ≤ end
 
 -- the first quote of s from start up to end stands at r, or r is the end
 pub record FirstQuote (s : List ℕ) (start end r : ℕ) : Type 0 where

@@ -19,7 +19,7 @@ ghost use Rattle.symbols.specs.Keys.{agrees};
 ghost use Rattle.symbols.specs.Sets.{has-bit};
 ghost use Rattle.symbols.specs.Names.{name-in};
 ghost use Rattle.symbols.specs.Columns.{NameColumns, PrefixColumns, name-notations, name-units};
-ghost use Rattle.symbols.specs.Views.{place, symbol-in, CutAt};
+ghost use Rattle.symbols.specs.Views.{place, symbol-in, Bounded, CutAt};
 
 // How many names and prefixes the tables have, and how many letters a key can hold.
 const NAMES: usize = 67;
@@ -93,6 +93,7 @@ pub fn prefix_named(lengths: &[u8], keys: &[u64], s: &[u8], start: usize, end: u
 fn known_symbol(prefix: u8, unit: u8) -> Symbol
     requires { ⌜ 0 < unit ⌝ }
     ensures { λ r. ⌜ ((s : List ℕ) → symbol-in s r ≡ known (place prefix) (unit - 1)) ⌝ }
+    ensures { λ r. ⌜ ((start end : ℕ) → Bounded start end r) ⌝ }
 {
     Symbol {
         known: true,
@@ -105,7 +106,9 @@ fn known_symbol(prefix: u8, unit: u8) -> Symbol
 
 // An unknown symbol, whose letters stand from `start` up to `end`.
 fn unknown_symbol(prefix: u8, start: usize, end: usize) -> Symbol
+    requires { ⌜ start ≤ end ⌝ }
     ensures { λ r. ⌜ ((s : List ℕ) → symbol-in s r ≡ unknown (place prefix) (between s start end)) ⌝ }
+    ensures { λ r. ⌜ Bounded start end r ⌝ }
 {
     Symbol {
         known: false,
@@ -165,6 +168,7 @@ fn by_cut(
     requires { ⌜ (start ≤ end) × (end ≤ length (now s)) ⌝ }
     ensures { λ r. ⌜ symbol-in (now (s .entry)) r
         ≡ by-cut (between (now (s .entry)) start end) (known-cuts n (between (now (s .entry)) start end)) ⌝ }
+    ensures { λ r. ⌜ Bounded start end r ⌝ }
 {
     let two = cut(
         lengths,
@@ -225,6 +229,7 @@ fn unquoted_symbol(
     requires { ⌜ (start ≤ end) × (end ≤ length (now s)) ⌝ }
     ensures { λ r. ⌜ symbol-in (now (s .entry)) r
         ≡ by-whole n (between (now (s .entry)) start end) (unit-named n (between (now (s .entry)) start end)) ⌝ }
+    ensures { λ r. ⌜ Bounded start end r ⌝ }
 {
     let whole = unit_named(lengths, keys, notations, units, n, s, start, end);
     if 0 < whole {
@@ -258,6 +263,7 @@ fn quoted_symbol(
     ensures { λ r. ⌜ symbol-in (now (s .entry)) r
         ≡ unknown (prefix-named (between (now (s .entry)) start quote))
         (run unquoted (between (now (s .entry)) (quote + 1) end)) ⌝ }
+    ensures { λ r. ⌜ Bounded start end r ⌝ }
 {
     let prefix = prefix_named(prefix_lengths, prefix_keys, s, start, quote);
     let first = quote + 1;
@@ -282,6 +288,7 @@ pub fn symbol(
     requires { ⌜ PrefixColumns (now «prefix_lengths») (now «prefix_keys») ⌝ }
     requires { ⌜ (start ≤ end) × (end ≤ length (now s)) ⌝ }
     ensures { λ r. ⌜ symbol-in (now (s .entry)) r ≡ symbol n (between (now (s .entry)) start end) ⌝ }
+    ensures { λ r. ⌜ Bounded start end r ⌝ }
 {
     let quote = first_quote(s, start, end);
     if quote < end {

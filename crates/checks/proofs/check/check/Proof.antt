@@ -7,12 +7,12 @@ use Rattle.checks.proofs.check.check.Statement.{statement}
 use Rattle.checks.proofs.check.check.Tie as tie
 use Rattle.checks.proofs.check.check.Reads as reads
 use Rattle.checks.proofs.check.check.Lts as lts
-use Rattle.descent.proofs.whole.read_label.Reads as read-label-reads
 use Rattle.checks.proofs.bytes.all_admitted.Reads as all-admitted-reads
 use Rattle.checks.proofs.check.check_values.Reads as check-values-reads
 use Rattle.checks.proofs.check.rejected.Reads as rejected-reads
 use Rattle.checks.proofs.notation.is_notation.Reads as is-notation-reads
 use Rattle.checks.proofs.notation.rules.Reads as rules-reads
+use Rattle.descent.proofs.whole.read_label.Reads as read-label-reads
 
 is-notation-requires : tie.Need-is-notation-requires
 is-notation-requires c κs = search needs
@@ -50,6 +50,12 @@ rejected-requires-4 c κs = search needs
 returns-4 : tie.Need-returns-4
 returns-4 c = search (check₄, arith)
 
+element-copy-out-check-values : tie.Need-element-copy-out-check-values
+element-copy-out-check-values c = search needs
+
+element-copy-out-check-values-2 : tie.Need-element-copy-out-check-values-2
+element-copy-out-check-values-2 c = search needs
+
 check-values-requires : tie.Need-check-values-requires
 check-values-requires c κs = search needs
 
@@ -72,5 +78,7 @@ check-spec =
     read-label-requires
     rejected-requires-4
     returns-4
+    element-copy-out-check-values
+    element-copy-out-check-values-2
     check-values-requires
     returns-5)

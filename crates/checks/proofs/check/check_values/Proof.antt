@@ -24,7 +24,7 @@ due-requires-4 : tie.Need-due-requires-4
 due-requires-4 c κs = search needs
 
 returns : tie.Need-returns
-returns c = search (values-checked (c .before .before .before .before .before .before .before .before .factor .result), arith)
+returns c = search (values-checked (c .before .before .before .before .before .before .factor .result), arith)
 
 pub check-values-spec : {M : Type 1} → statement M
 check-values-spec =

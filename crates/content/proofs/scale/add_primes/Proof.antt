@@ -15,60 +15,11 @@ use Rattle.content.proofs.scale.add_primes.Statement.{statement}
 use Rattle.content.proofs.scale.add_primes.Tie as tie
 
 abbrev Inv-loop : tie.InvT-loop
-Inv-loop prefixes primes sums₀ x e prime₀ sums prime =
+Inv-loop prefixes primes x e sums₀ prime₀ sums prime =
     (prime ≤ 4) × ((s : List ℕ) → Gathered (λ j. j ↑ prime-in (prime-at j) (symbol-in s x)) prime e sums₀ sums)
 
 abbrev μ-loop : tie.MeasureT-loop
-μ-loop prefixes primes sums₀ x e prime₀ sums prime = 4 - prime
-
-loop-holds : tie.Need-loop-holds Inv-loop μ-loop
-loop-holds c = (omega arith, λ s. none-gathered _ _ _)
-
-prime-power-requires : tie.Need-prime-power-requires Inv-loop μ-loop
-prime-power-requires c κs = search needs
-
-mul-plus : tie.Need-mul-plus Inv-loop μ-loop
-mul-plus c = search needs
-
-element-copy-out-plus : tie.Need-element-copy-out-plus Inv-loop μ-loop
-element-copy-out-plus c = search needs
-
-plus-requires : tie.Need-plus-requires Inv-loop μ-loop
-plus-requires c κs =
-    let at = c .before .before .before in
-    let start = at .before .before .before in
-    let h : at .loop .prime < 4 = omega arith in
-    may-add
-    (at .loop .inv .1 []) (start .pre .1 .1 .small) h _ _ refl (c .before .prime-power .ensures []) (prime-small (at .loop .prime) h _)
-
-mul-t15 : tie.Need-mul-t15 Inv-loop μ-loop
-mul-t15 c = search needs
-
-element-set-from-sums : tie.Need-element-set-from-sums Inv-loop μ-loop
-element-set-from-sums c = search needs
-
-add-prime : tie.Need-add-prime Inv-loop μ-loop
-add-prime c = search needs
-
-loop-less : tie.Need-loop-less Inv-loop μ-loop
-loop-less c = search needs
-
-loop-again : tie.Need-loop-again Inv-loop μ-loop
-loop-again c =
-    let at = c .before .before .before .before in
-    let start = at .before .before .before in
-    let h : at .loop .prime < 4 = omega arith in (
-      omega arith,
-      λ s.
-          one-gathered
-          (at .loop .inv .1 s) (start .pre .1 .1 .small) h _ _ refl (c .before .before .prime-power .ensures s)
-          (prime-small (at .loop .prime) h _) _ (omega (arith, start .pre .1 .1 .room)) (c .plus .ensures),
-    )
-
-returns : tie.Need-returns Inv-loop μ-loop
-returns c = λ s.
-    let room = c .before .before .before .before .pre .1 .1 .room in
-    all-gathered (c .before .loop .inv .1 s) (omega arith) _ (λ b l. primes-add _ b (omega (arith, room)))
+μ-loop prefixes primes x e sums₀ prime₀ sums prime = 4 - prime
 
 pub add-primes-spec : {M : Type 1} → statement M
 add-primes-spec =
@@ -76,14 +27,31 @@ add-primes-spec =
     (tie.spec
     Inv-loop
     μ-loop
-    loop-holds
-    prime-power-requires
-    mul-plus
-    element-copy-out-plus
-    plus-requires
-    mul-t15
-    element-set-from-sums
-    add-prime
-    loop-less
-    loop-again
-    returns)
+    (λ c. (omega arith, λ s. none-gathered _ _ _))
+    (λ c κs. search needs)
+    (λ c. search needs)
+    (λ c. search needs)
+    (λ c κs.
+    let at = c .before .before .before in
+    let start = at .before in
+    let h : at .loop .prime < 4 = omega arith in
+    may-add
+    (at .loop .inv .1 []) (start .pre .1 .1 .small) h _ _ refl (c .before .prime-power .ensures []) (prime-small (at .loop .prime) h _))
+    (λ c. search needs)
+    (λ c. search needs)
+    (λ c. search needs)
+    (λ c. search needs)
+    (λ c.
+    let at = c .before .before .before .before in
+    let start = at .before in
+    let h : at .loop .prime < 4 = omega arith in (
+      omega arith,
+      λ s.
+          one-gathered
+          (at .loop .inv .1 s) (start .pre .1 .1 .small) h _ _ refl (c .before .before .prime-power .ensures s)
+          (prime-small (at .loop .prime) h _) _ (omega (arith, start .pre .1 .1 .room)) (c .plus .ensures),
+    ))
+    (λ c.
+    λ s.
+    let room = c .before .before .pre .1 .1 .room in
+    all-gathered (c .before .loop .inv .1 s) (omega arith) _ (λ b l. primes-add _ b (omega (arith, room)))))

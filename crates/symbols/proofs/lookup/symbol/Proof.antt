@@ -11,17 +11,23 @@ quoted-symbol-requires : tie.Need-quoted-symbol-requires
 quoted-symbol-requires c κs = search needs
 
 returns : tie.Need-returns
-returns c = c .quoted-symbol .ensures
-    ∙ with-quote _ (c .before .before .before .before .before .before .before .before .before .before .pre .1 .1 .1)
-    (c .before .before .first-quote .ensures) (c .before .if1 .taken)
+returns c = (
+  c .quoted-symbol .ensures .0
+      ∙ with-quote _ (c .before .before .before .before .before .before .before .before .before .before .pre .1 .1 .1)
+      (c .before .before .first-quote .ensures) (c .before .if1 .taken),
+  c .quoted-symbol .ensures .1,
+)
 
 unquoted-symbol-requires : tie.Need-unquoted-symbol-requires
 unquoted-symbol-requires c κs = search needs
 
 returns-2 : tie.Need-returns-2
-returns-2 c = c .unquoted-symbol .ensures
-    ∙ without-quote _ (c .before .before .before .before .before .before .before .before .before .before .pre .1 .1 .1)
-    (c .before .before .first-quote .ensures) (c .before .if1 .left)
+returns-2 c = (
+  c .unquoted-symbol .ensures .0
+      ∙ without-quote _ (c .before .before .before .before .before .before .before .before .before .before .pre .1 .1 .1)
+      (c .before .before .first-quote .ensures) (c .before .if1 .left),
+  c .unquoted-symbol .ensures .1,
+)
 
 pub symbol-spec : {M : Type 1} → statement M
 symbol-spec =

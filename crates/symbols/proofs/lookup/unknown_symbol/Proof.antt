@@ -1,4 +1,5 @@
 -- `symbols::lookup::unknown_symbol` meets its contract by what a symbol stands for.
+use native.Mathlib.Omega.{arith}
 use mathlib.Core.Path.{refl}
 use Rattle.symbols.specs.Views.{symbol-in}
 use Rattle.symbols.proofs.lookup.unknown_symbol.Statement.{statement}
@@ -6,7 +7,7 @@ use Rattle.symbols.proofs.lookup.unknown_symbol.Tie as tie
 
 returns : tie.Need-returns
 unfolding symbol-in
-returns c = λ s. refl
+returns c = (λ s. refl, record { row = omega arith; from = λ e. omega arith; forward = omega arith; upto = omega arith })
 
 pub unknown-symbol-spec : {M : Type 1} → statement M
 unknown-symbol-spec = tie.close (tie.spec returns)

@@ -13,13 +13,13 @@ known-symbol-requires : tie.Need-known-symbol-requires
 known-symbol-requires c κs = search needs
 
 returns : tie.Need-returns
-returns c = c .known-symbol .ensures _ ∙ whole-known _ _ _ (c .before .before .unit-named .ensures) (omega arith)
+returns c = (c .known-symbol .ensures .0 _ ∙ whole-known _ _ _ (c .before .before .unit-named .ensures) (omega arith), c .known-symbol .ensures .1 _ _)
 
 by-cut-requires : tie.Need-by-cut-requires
 by-cut-requires c κs = search needs
 
 returns-2 : tie.Need-returns-2
-returns-2 c = c .by-cut .ensures ∙ whole-other _ _ _ (c .before .before .unit-named .ensures) (omega arith)
+returns-2 c = (c .by-cut .ensures .0 ∙ whole-other _ _ _ (c .before .before .unit-named .ensures) (omega arith), c .by-cut .ensures .1)
 
 pub unquoted-symbol-spec : {M : Type 1} → statement M
 unquoted-symbol-spec =

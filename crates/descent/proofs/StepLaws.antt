@@ -4,7 +4,6 @@ use native.Mathlib.Omega.{arith}
 use mathlib.Core.Path.{_≡_, refl, sym, ap, _∙_}
 use mathlib.Core.Bool.{Bool, true, false, _&&_, not}
 use mathlib.Core.List.{List, [], _∷_, _++_, append-assoc, append-nil}
-use lib.IntN.{ℤ}
 use lib.ListN.{length, drop, getD, length-drop}
 use borrow.Author.Tests.{ne-eqb, not-true, not-false}
 use Rattle.label.specs.declared.Rules.{Rules}
@@ -98,12 +97,11 @@ module _ {r : Rules} {b : Bool} {s : List ℕ} {at : ℕ} {t : Lent} {w : Spelli
     unfolding unit then mapped
     unit₂ f = record { reads = nothing-read (λ k h. rw (v .is, not-false (w .ok) e, q .reads .is, not-true (p .ok) f)) }
 
-    pub unit₃ : {m : MaybeExponent} {z : ℤ} {u : Lent} → Ready s at t → not (p .ok) ≡ false
+    pub unit₃ : {m : MaybeExponent} {u : Lent} → Ready s at t → not (p .ok) ≡ false
         → given (m .ok) (m .exponent) ≡ exponent-of b (written-in s (p .power))
-        → Kept t at (w .end) z (m .ok) u → z ≡ m .exponent .0 → ReadsUnit r b s at t u (p .next + 1)
+        → Kept t at (w .end) (m .exponent .0) (m .ok) u → ReadsUnit r b s at t u (p .next + 1)
     unfolding unit then mapped
-    unit₃ {m} {z} {u} g f x y' i =
-        let y : Kept t at (w .end) (m .exponent .0) (m .ok) u = rw i at y' in
+    unit₃ g f x y =
         let far = v .ahead (not-false (w .ok) e) in
         let back : p .next + 1 - 1 ≡ p .next = omega arith in
         record {

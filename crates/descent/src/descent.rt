@@ -39,7 +39,7 @@ pub fn unit(
     let power = p.power;
     let e = values::powers::exponent(s, turned, power);
     let x = e.exponent;
-    keep(places, exponents, at, end, x.0, e.ok);
+    keep(places, exponents, at, end, x, e.ok);
     next + 1
 }
 

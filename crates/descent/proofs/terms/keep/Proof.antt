@@ -26,7 +26,7 @@ keep-spec =
     (λ c. search needs)
     (λ c. search needs)
     (λ c.
-    let start = c .before .before .before .before in
-    kept₁ (start .pre .0) refl (c .before .marked .ensures) (toZ-ofZ (start .fits .exponent)) (c .if1 .taken))
+    let start = c .before .before .before .before .before in
+    kept₁ (start .pre .0) refl (c .before .before .marked .ensures) (search (toZ-ofZ, needs)) (c .before .if1 .taken))
     -- no room for it
     (λ c. kept₂ (c .before .before .before .before .pre .0) refl (c .before .marked .ensures) (c .if1 .left)))

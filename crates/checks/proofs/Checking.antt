@@ -29,7 +29,7 @@ use Rattle.descent.specs.Terms.{Lent, count, broken, missing, Holds}
 use Rattle.descent.specs.Labels.{parsed-by, ReadsLabel}
 use Rattle.checks.specs.declared.check.Checked.{Checked}
 use Rattle.checks.specs.Checks.{due, units-in, checked-by, Rejects, ChecksValues, Checks}
-use Rattle.checks.proofs.Notations.{notation-small}
+use Rattle.checks.proofs.Notations.{in-range}
 
 rejects : {i : ℕ} {r : Checked} → Rejects i r → (k : Tens) (us : List Placed) → checked-by (r .ok) (r .number) k us ≡ refuse i
 rejects w k us = rw (w .refused, w .number)
@@ -165,7 +165,7 @@ module _ (n : ℕ) (s : List ℕ) where
         unfolding check-grammar
         check₅ {r} v w = record {
           is = by-grammar ∙ rw (good) (w .is z (reads .tells .parts) refl refl holds);
-          small = λ k. notation-small n (sym e ∙ not-false b t);
+          small = λ k. omega (arith, in-range n (sym e ∙ not-false b t) .most);
           short = λ k. l;
           few = w .few;
           inside = λ k. rw (holds .counted) (holds .inside (omega (arith, w .few k, holds .counted)));

@@ -1,106 +1,95 @@
 -- Notation numbers, their rules, and admitted bytes: one law for each way through the code.
-use Prim.Native.Nat.{ℕ, _≤_, _<_, _+_}
+use Prim.Native.Nat.{ℕ, zero, suc, _≤_, _<_, _+_}
 use native.Mathlib.Omega.{arith}
-use native.Mathlib.Decide.{ℕ-discrete}
-use mathlib.Core.Path.{_≡_, refl, sym, _∙_}
-use mathlib.Core.Bool.{Bool, true, false, not}
-use mathlib.Core.List.{List}
+use native.Mathlib.Decide.{ℕ-discrete, decLt}
+use mathlib.Core.Path.{_≡_, refl, sym, ap, _∙_}
+use mathlib.Core.Bool.{Bool, true, false, _||_, not}
+use mathlib.Core.List.{List, [], _∷_}
 use mathlib.Core.Option.{some}
-use lib.Dec.{leb}
+use lib.Dec.{leb, eqb}
 use lib.ListN.{length, drop, getD}
-use borrow.Author.Tests.{leb-true, ne-eqb, lt-leb, not-true, not-false}
+use borrow.Author.Tests.{leb-true, le-leb, lt-leb, eq-eqb, ne-eqb, not-true, not-false}
 use Rattle.label.specs.declared.Rules.{Rules}
 use Rattle.label.specs.Bytes.{within, admitted, all}
-use Rattle.label.specs.Notations.{member, notation}
-use Rattle.label.specs.Rules.{fits-rules, ogip-rules, cds-rules, vounits-rules, ruled, rules-among, rules-of}
+use Rattle.label.specs.Notations.{Notations, member, everywhere, notation, value-among}
+use Rattle.label.specs.Rules.{fits-rules, ogip-rules, cds-rules, vounits-rules, ruled, rules-of}
 use Rattle.label.proofs.Basics.{false-true}
 use Rattle.scan.proofs.Slices.{here, beyond}
 
--- the number of a notation is one of four
-pub data OneOf : ℕ → Type 0 where
-  fits : OneOf 1
-  ogip : OneOf 2
-  cds : OneOf 3
-  vounits : OneOf 4
+-- NUMBERS
 
-one-notation : {n : ℕ} → OneOf n → notation n ≡ true
-unfolding notation member
-one-notation OneOf.fits = refl
-one-notation OneOf.ogip = refl
-one-notation OneOf.cds = refl
-one-notation OneOf.vounits = refl
+-- k numbers from a on
+numbers : ℕ → ℕ → Notations
+numbers a zero = []
+numbers a (suc k) = a ∷ numbers (suc a) k
 
-one-small : {n : ℕ} → OneOf n → leb n 4 ≡ true
-one-small OneOf.fits = refl
-one-small OneOf.ogip = refl
-one-small OneOf.cds = refl
-one-small OneOf.vounits = refl
-
--- a number is one of the four, or none of them
-data Which (n : ℕ) : Type 0 where
-  one : OneOf n → Which n
-  other : (n ≡ 1 → ⊥) → (n ≡ 2 → ⊥) → (n ≡ 3 → ⊥) → (n ≡ 4 → ⊥) → Which n
-
-which : (n : ℕ) → Which n
-which n = go (ℕ-discrete n 1) (ℕ-discrete n 2) (ℕ-discrete n 3) (ℕ-discrete n 4)
+number-in : (a k n : ℕ) → a ≤ n → n < a + k → member n (numbers a k) ≡ true
+unfolding member numbers
+number-in a zero n g h = absurd (omega arith)
+number-in a (suc k) n g h = go (ℕ-discrete n a) (λ e. number-in (suc a) k n (omega arith) (omega arith))
   where
-    go : Dec (n ≡ 1) → Dec (n ≡ 2) → Dec (n ≡ 3) → Dec (n ≡ 4) → Which n
-    go (yes e) y z w = Which.one (rw e OneOf.fits)
-    go (no a) (yes e) z w = Which.one (rw e OneOf.ogip)
-    go (no a) (no b) (yes e) w = Which.one (rw e OneOf.cds)
-    go (no a) (no b) (no c) (yes e) = Which.one (rw e OneOf.vounits)
-    go (no a) (no b) (no c) (no d) = Which.other a b c d
+    go : Dec (n ≡ a) → ((n ≡ a → ⊥) → member n (numbers (suc a) k) ≡ true) → (eqb n a || member n (numbers (suc a) k)) ≡ true
+    go (yes e) ih = rw (eq-eqb n a e)
+    go (no e) ih = rw (ne-eqb n a e) (ih e)
 
-no-notation : (n : ℕ) → (n ≡ 1 → ⊥) → (n ≡ 2 → ⊥) → (n ≡ 3 → ⊥) → (n ≡ 4 → ⊥) → notation n ≡ false
-unfolding notation member
-no-notation n a b c d = rw (ne-eqb n 1 a, ne-eqb n 2 b, ne-eqb n 3 c, ne-eqb n 4 d)
+number-above : (a k n : ℕ) → a + k ≤ n → member n (numbers a k) ≡ false
+unfolding member numbers
+number-above a zero n h = refl
+number-above a (suc k) n h = rw (ne-eqb n a (λ e. omega arith)) (number-above (suc a) k n (omega arith))
 
-pub notation-small : (n : ℕ) → notation n ≡ true → n ≤ 4
-notation-small n t = go (which n)
-  where
-    go : Which n → n ≤ 4
-    go (Which.one w) = leb-true n 4 (one-small w)
-    go (Which.other a b c d) = absurd (false-true (sym (no-notation n a b c d) ∙ t))
+-- the notations have the numbers from 1 on
+abbrev last : ℕ
+last = length everywhere
 
-pub is-a-notation : (n : ℕ) (b : Bool) → b ≡ notation n → not b ≡ false → notation n ≡ true
-is-a-notation n b e t = sym e ∙ not-false b t
+from-one : everywhere ≡ numbers 1 last
+unfolding numbers
+from-one = refl
 
 pub is-notation₁ : (n : ℕ) → n ≡ 0 → false ≡ notation n
 unfolding notation member
 is-notation₁ n e = rw e
 
-pub is-notation₂ : (n : ℕ) → (n ≡ 0 → ⊥) → leb n 4 ≡ notation n
-is-notation₂ n e = go (which n)
+pub is-notation₂ : (n : ℕ) → (n ≡ 0 → ⊥) → leb n last ≡ notation n
+unfolding notation
+is-notation₂ n e = go (decLt last n) ∙ ap (member n) (sym from-one)
   where
-    go : Which n → leb n 4 ≡ notation n
-    go (Which.one w) = one-small w ∙ sym (one-notation w)
-    go (Which.other a b c d) = lt-leb n 4 (omega arith) ∙ sym (no-notation n a b c d)
+    go : Dec (last < n) → leb n last ≡ member n (numbers 1 last)
+    go (yes h) = lt-leb n last h ∙ sym (number-above 1 last n (omega arith))
+    go (no h) = le-leb n last (omega arith) ∙ sym (number-in 1 last n (omega arith) (omega arith))
+
+-- the range of the notations' numbers
+pub record InRange (n : ℕ) : Type 0 where
+  pub least : 1 ≤ n
+  pub most : n ≤ last
+
+pub in-range : (n : ℕ) → notation n ≡ true → InRange n
+in-range n t = go (ℕ-discrete n 0)
+  where
+    go : Dec (n ≡ 0) → InRange n
+    go (yes e) = absurd (false-true (is-notation₁ n e ∙ t))
+    go (no e) = record { least = omega arith; most = leb-true n last (is-notation₂ n e ∙ t) }
+
+pub is-a-notation : (n : ℕ) (b : Bool) → b ≡ notation n → not b ≡ false → notation n ≡ true
+is-a-notation n b e t = sym e ∙ not-false b t
 
 -- RULES
 
 module _ {n : ℕ} {r : Rules} where
   pub rules₁ : n ≡ 1 → r ≡ fits-rules → rules-of n ≡ some r
-  unfolding rules-of rules-among ruled
+  unfolding rules-of value-among ruled
   rules₁ e q = rw (e, q)
 
   pub rules₂ : n ≡ 2 → r ≡ ogip-rules → rules-of n ≡ some r
-  unfolding rules-of rules-among ruled
+  unfolding rules-of value-among ruled
   rules₂ e q = rw (e, q)
 
   pub rules₃ : n ≡ 3 → r ≡ cds-rules → rules-of n ≡ some r
-  unfolding rules-of rules-among ruled
+  unfolding rules-of value-among ruled
   rules₃ e q = rw (e, q)
 
-  last-rules : n ≡ 4 → r ≡ vounits-rules → rules-of n ≡ some r
-  unfolding rules-of rules-among ruled
-  last-rules e q = rw (e, q)
-
   pub rules₄ : notation n ≡ true → (n ≡ 1 → ⊥) → (n ≡ 2 → ⊥) → (n ≡ 3 → ⊥) → r ≡ vounits-rules → rules-of n ≡ some r
-  rules₄ t a b c q = go (ℕ-discrete n 4)
-    where
-      go : Dec (n ≡ 4) → rules-of n ≡ some r
-      go (yes e) = last-rules e q
-      go (no d) = absurd (false-true (sym (no-notation n a b c d) ∙ t))
+  unfolding rules-of value-among ruled
+  rules₄ t a b c q = let w = in-range n t in let e : n ≡ last = omega (arith, w .least, w .most) in rw (e, q)
 
 -- BYTES
 

@@ -41,7 +41,7 @@ pub record ChecksValues (s : List ℕ) (w : WrittenFactor) (n m : ℕ) (r : Chec
 -- the terms t are the label's where it is accepted
 pub record Checks (n : ℕ) (s : List ℕ) (t : Lent) (r : Checked) : Type 0 where
   pub is : checked n s ≡ checked-by (r .ok) (r .number) (r .k) (units-in s t)
-  pub small : r .ok ≡ true → n ≤ 4
+  pub small : r .ok ≡ true → n ≤ 255
   pub short : r .ok ≡ true → length s ≤ 255
   pub few : r .ok ≡ true → count t ≤ 32
   pub inside : r .ok ≡ true → AllIn s (terms t (count t))

@@ -6,6 +6,9 @@ ghost use mathlib.Core.Option.{some};
 ghost use Rattle.label.specs.Notations.{notation};
 ghost use Rattle.label.specs.Rules.{fits-rules, ogip-rules, cds-rules, vounits-rules, rules-of};
 
+// How many notations there are: their numbers are 1 to this one.
+const NOTATIONS: u32 = 4;
+
 pub fn fits() -> Rules
     ensures { λ r. ⌜ r ≡ fits-rules ⌝ }
 {
@@ -23,6 +26,7 @@ pub fn fits() -> Rules
         each: false,
         within: false,
         lead: true,
+        factor: true,
         wrapped: true,
         signed: true,
         plain: false,
@@ -46,6 +50,7 @@ pub fn ogip() -> Rules
         each: true,
         within: false,
         lead: false,
+        factor: true,
         wrapped: true,
         signed: false,
         plain: true,
@@ -69,6 +74,7 @@ pub fn cds() -> Rules
         each: true,
         within: false,
         lead: false,
+        factor: true,
         wrapped: false,
         signed: true,
         plain: true,
@@ -92,6 +98,7 @@ pub fn vounits() -> Rules
         each: false,
         within: true,
         lead: false,
+        factor: true,
         wrapped: true,
         signed: false,
         plain: true,
@@ -105,7 +112,7 @@ pub fn is_notation(n: u32) -> bool
     if n == 0 {
         return false;
     }
-    n <= 4
+    n <= NOTATIONS
 }
 
 // The rules of the notation of number `n`.

@@ -12,13 +12,13 @@ use Rattle.label.specs.declared.Exponent.{Exponent}
 use Rattle.label.specs.declared.Tens.{Tens}
 use Rattle.label.specs.Units.{base-count, in-tens}
 use Rattle.label.specs.Reading as spec
-use Rattle.label.specs.Reading.{exponent, sum, times, one, base-in, prime-in, total, up-to, dimensions-of, scale-of}
+use Rattle.label.specs.Reading.{exponent, sum, times, one, base-in, prime-in, total, dimensions-of, scale-of}
 use Rattle.label.specs.Symbols.{Symbol}
 use Rattle.symbols.specs.Slots.{prime-at}
 use Rattle.symbols.specs.Views.{symbol-in}
 use Rattle.symbols.specs.declared.Symbol.{Symbol as Coded}
 use Rattle.descent.specs.Terms.{Lent}
-use Rattle.content.specs.Views.{symbol-at, term-in, terms-in}
+use Rattle.content.specs.Views.{symbol-at, term-in, terms-in, scale-in}
 use Rattle.content.specs.Sums.{Within, Summable, Added, zeros}
 use Rattle.content.proofs.Integers.{wide-fits}
 use Rattle.content.proofs.Listing.{listed}
@@ -119,8 +119,9 @@ dimensions-are ts ys v =
 -- the scale, from sums that started at the factor's tens
 pub scale-is : (k : Tens) (ts : List spec.Term) (xs ys : List ℤ) → length xs ≡ 4
     → ((b : ℕ) → b < 4 → getD xs b (pos 0) ≡ in-tens (prime-at b) k *ℤ pos 60)
-    → Totals (λ b. prime-in (prime-at b)) ts xs ys → map exponent ys ≡ scale-of k ts
-unfolding scale-of up-to
-scale-is k ts xs ys e q v =
-    listed 4 (λ b. sum (times (in-tens (prime-at b) k) one) (total (prime-in (prime-at b)) ts)) ys (v .room ∙ e)
-    (λ b h. ap exponent (v .sums b (omega (arith, e)) ∙ ap (λ (z : ℤ). z +ℤ total (prime-in (prime-at b)) ts .0) (q b h)))
+    → Totals (λ b. prime-in (prime-at b)) ts xs ys → scale-in ys ≡ scale-of k ts
+unfolding scale-of
+scale-is k ts xs ys e q v = λ i. record { of-2 = at 0 (omega arith) i; of-3 = at 1 (omega arith) i; of-5 = at 2 (omega arith) i; of-487 = at 3 (omega arith) i }
+  where
+    at : (b : ℕ) → b < 4 → exponent (getD ys b (pos 0)) ≡ sum (times (in-tens (prime-at b) k) one) (total (prime-in (prime-at b)) ts)
+    at b h = ap exponent (v .sums b (omega (arith, e)) ∙ ap (λ (z : ℤ). z +ℤ total (prime-in (prime-at b)) ts .0) (q b h))

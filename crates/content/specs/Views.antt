@@ -2,11 +2,11 @@
 use Prim.Native.Nat.{ℕ, zero, suc, _+_, _-_}
 use mathlib.Core.List.{List, [], _∷_, _++_}
 use mathlib.Core.Option.{Option}
-use lib.IntN.{pos}
+use lib.IntN.{ℤ, pos}
 use lib.ListN.{getD}
 use Rattle.label.specs.Ranges.{between}
 use Rattle.label.specs.Symbols.{Symbol, known, unknown}
-use Rattle.label.specs.Reading.{Term, exponent}
+use Rattle.label.specs.Reading.{Term, exponent, Scale}
 use Rattle.symbols.specs.Views.{place}
 use Rattle.descent.specs.Terms.{Lent}
 
@@ -32,3 +32,12 @@ term-in s t x i = record {
 unfoldable pub terms-in : List ℕ → Lent → List ℕ → ℕ → List Term
 terms-in s t x zero = []
 terms-in s t x (suc i) = terms-in s t x i ++ (term-in s t x i ∷ [])
+
+-- the scale by the array of primes: its places 0 to 3 have the exponents of 2, 3, 5 and 487
+abbrev pub scale-in : List ℤ → Scale
+scale-in cs = record {
+  of-2 = exponent (getD cs 0 (pos 0));
+  of-3 = exponent (getD cs 1 (pos 0));
+  of-5 = exponent (getD cs 2 (pos 0));
+  of-487 = exponent (getD cs 3 (pos 0));
+}

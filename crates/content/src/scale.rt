@@ -6,15 +6,16 @@ use label::Tens;
 use symbols::Symbol;
 use symbols::properties::prime_power;
 ghost use mathlib.Core.Path.{_≡_};
-ghost use mathlib.Core.List.{List, map};
+ghost use mathlib.Core.List.{List};
 ghost use Prim.Native.Nat.{ℕ, _≤_, _^_};
 ghost use lib.IntN.{pos, natAbs, _*ℤ_};
-ghost use Rattle.label.specs.Reading.{exponent, prime-in, scale-of};
+ghost use lib.ListN.{length};
+ghost use Rattle.label.specs.Reading.{prime-in, scale-of};
 ghost use Rattle.symbols.specs.Columns.{prefix-powers, unit-primes};
 ghost use Rattle.symbols.specs.Slots.{prime-at};
 ghost use Rattle.symbols.specs.Views.{symbol-in};
 ghost use Rattle.descent.specs.Terms.{lent};
-ghost use Rattle.content.specs.Views.{terms-in};
+ghost use Rattle.content.specs.Views.{terms-in, scale-in};
 ghost use Rattle.content.specs.Sums.{Summable, Added, zeros};
 
 // Adds a term to the sums: to the sum of each prime, the prime's power in the term's symbol times the term's exponent.
@@ -50,7 +51,7 @@ pub fn scale(
 )
     requires { ⌜ (now prefixes ≡ prefix-powers) × ((now primes ≡ unit-primes) × (count ≤ 32)) ⌝ }
     requires { ⌜ now sums ≡ zeros 4 ⌝ }
-    ensures { λ _. ⌜ ((s p : List ℕ) → map exponent (now (sums .exit))
+    ensures { λ _. ⌜ (length (now (sums .exit)) ≡ 4) × ((s p : List ℕ) → scale-in (now (sums .exit))
         ≡ scale-of k (terms-in s (lent p (now (exponents .entry))) (now (names .entry)) count)) ⌝ }
 {
     let tens = in_sixtieths(k);

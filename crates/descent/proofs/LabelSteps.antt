@@ -113,20 +113,24 @@ module _ (r : Rules) (f g : List ℕ → Found (List Part)) where
   by-space [] h e = absurd (omega arith)
   by-space (c ∷ u) h e = rw e
 
-  by-digit : (s : List ℕ) → 0 < length s → (getD s 0 0 ≡ 32 → ⊥) → digit (getD s 0 0) ≡ true → label-by f g r s ≡ factored g r (factor r s)
+  by-digit : (s : List ℕ) → 0 < length s → (getD s 0 0 ≡ 32 → ⊥) → (digit (getD s 0 0) && r .factor) ≡ true → label-by f g r s ≡ factored g r (factor r s)
   unfolding label-by
   by-digit [] h n e = absurd (omega arith)
   by-digit (c ∷ u) h n e = rw (ne-eqb c 32 n, e)
 
-  by-slash : (s : List ℕ) → 0 < length s → (getD s 0 0 ≡ 32 → ⊥) → digit (getD s 0 0) ≡ false → (eqb (getD s 0 0) 47 && r .lead) ≡ true → label-by f g r s ≡ ended no-factor (f (drop 1 s))
+  by-slash : (s : List ℕ) → 0 < length s → (getD s 0 0 ≡ 32 → ⊥) → (digit (getD s 0 0) && r .factor) ≡ false → (eqb (getD s 0 0) 47 && r .lead) ≡ true → label-by f g r s ≡ ended no-factor (f (drop 1 s))
   unfolding label-by
   by-slash [] h n e q = absurd (omega arith)
   by-slash (c ∷ u) h n e q = rw (ne-eqb c 32 n, e, q)
 
-  by-rest : (s : List ℕ) → 0 < length s → (getD s 0 0 ≡ 32 → ⊥) → digit (getD s 0 0) ≡ false → (eqb (getD s 0 0) 47 && r .lead) ≡ false → label-by f g r s ≡ ended no-factor (g s)
+  by-rest : (s : List ℕ) → 0 < length s → (getD s 0 0 ≡ 32 → ⊥) → (digit (getD s 0 0) && r .factor) ≡ false → (eqb (getD s 0 0) 47 && r .lead) ≡ false → label-by f g r s ≡ ended no-factor (g s)
   unfolding label-by
   by-rest [] h n e q = absurd (omega arith)
   by-rest (c ∷ u) h n e q = rw (ne-eqb c 32 n, e, q)
+
+-- a digit, where a factor may lead
+digit-factor : (c : ℕ) (f : Bool) {x y : Bool} → x ≡ digit c → y ≡ (x && f) → y ≡ (digit c && f)
+digit-factor c f k d = d ∙ ap (λ (b : Bool). b && f) k
 
 module _ {r : Rules} {s : List ℕ} where
   pub label₁ : {t : Lent} → length s ≡ 0 → Empty t → ReadsLabel r s t (record { ok = true; factor = Absent })
@@ -138,23 +142,23 @@ module _ {r : Rules} {s : List ℕ} where
     unfolding parse-by
     label₂ e q = rw q (record { tells = record { parts = []; is = by-space r _ _ s (omega arith) e; holds = λ x. absurd (false-true x); inside = tt } })
 
-    module _ (n : getD s 0 0 ≡ 32 → ⊥) {x : Bool} (d : x ≡ digit (getD s 0 0)) where
-      pub label₃ : {t : Lent} {o : LabelRead} → x ≡ true → ReadsFactored r s t o → ReadsLabel r s t o
+    module _ (n : getD s 0 0 ≡ 32 → ⊥) {x y : Bool} (k : x ≡ digit (getD s 0 0)) (d : y ≡ (x && r .factor)) where
+      pub label₃ : {t : Lent} {o : LabelRead} → y ≡ true → ReadsFactored r s t o → ReadsLabel r s t o
       unfolding parse-by
       label₃ e w = record {
         tells = record {
           parts = w .tells .parts;
-          is = by-digit r _ _ s (omega arith) n (sym d ∙ e) ∙ w .tells .is;
+          is = by-digit r _ _ s (omega arith) n (sym (digit-factor (getD s 0 0) (r .factor) k d) ∙ e) ∙ w .tells .is;
           holds = w .tells .holds;
           inside = w .tells .inside;
         };
       }
 
-      module _ (e : x ≡ false) {y : Bool} (q : y ≡ (eqb (getD s 0 0) 47 && r .lead)) where
-        pub label₄ : {t u : Lent} {p : ℕ} {o : LabelRead} → y ≡ true → Empty t → Stepped item r true s 1 t u p → Ended s Absent p o → ReadsLabel r s u o
+      module _ (e : y ≡ false) {b : Bool} (q : b ≡ (eqb (getD s 0 0) 47 && r .lead)) where
+        pub label₄ : {t u : Lent} {p : ℕ} {o : LabelRead} → b ≡ true → Empty t → Stepped item r true s 1 t u p → Ended s Absent p o → ReadsLabel r s u o
         unfolding parse-by
-        label₄ {t} {u} {p} {o} z w a v = record { tells = tells-ended item r true s 1 t u Absent p o _ w tt a v (by-slash r _ _ s (omega arith) n (sym d ∙ e) (sym q ∙ z)) }
+        label₄ {t} {u} {p} {o} z w a v = record { tells = tells-ended item r true s 1 t u Absent p o _ w tt a v (by-slash r _ _ s (omega arith) n (sym (digit-factor (getD s 0 0) (r .factor) k d) ∙ e) (sym q ∙ z)) }
 
-        pub label₅ : {t u : Lent} {p : ℕ} {o : LabelRead} → y ≡ false → Empty t → Stepped quotient r false s 0 t u p → Ended s Absent p o → ReadsLabel r s u o
+        pub label₅ : {t u : Lent} {p : ℕ} {o : LabelRead} → b ≡ false → Empty t → Stepped quotient r false s 0 t u p → Ended s Absent p o → ReadsLabel r s u o
         unfolding parse-by
-        label₅ {t} {u} {p} {o} z w a v = record { tells = tells-ended quotient r false s 0 t u Absent p o _ w tt a v (by-rest r _ _ s (omega arith) n (sym d ∙ e) (sym q ∙ z)) }
+        label₅ {t} {u} {p} {o} z w a v = record { tells = tells-ended quotient r false s 0 t u Absent p o _ w tt a v (by-rest r _ _ s (omega arith) n (sym (digit-factor (getD s 0 0) (r .factor) k d) ∙ e) (sym q ∙ z)) }

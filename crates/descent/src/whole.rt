@@ -70,7 +70,7 @@ pub fn ended(s: &[u8], f: WrittenFactor, p: usize) -> LabelRead
     }
 }
 
-// A label that starts with a digit.
+// A label that starts with a digit, where it may have a factor.
 pub fn factored(
     r: Rules,
     s: &[u8],
@@ -110,7 +110,7 @@ pub fn read_label(
     if c == 32 {
         return no_label();
     }
-    if is_digit(c) {
+    if both(is_digit(c), r.factor) {
         return factored(r, s, places, exponents);
     }
     if both(c == 47, r.lead) {

@@ -12,7 +12,7 @@ use Rattle.content.proofs.Naming.{all-in-at}
 use Rattle.reading.specs.declared.read.Answer.{Answer}
 use Rattle.reading.specs.Views.{reading-in}
 use Rattle.reading.specs.Answers.{Reads}
-use Rattle.reading.proofs.Answering.{dimensions-room, scale-room}
+use Rattle.reading.proofs.Answering.{dimensions-room}
 use Rattle.record.specs.Record.{record-of, written-over, buffer-after}
 use Rattle.record.specs.Recordable.{Recordable}
 
@@ -28,7 +28,7 @@ module _ {n : ℕ} {s : List ℕ} {t : Lent} {x : List ℕ} {ds cs : List ℤ} {
       few = v .few;
       sized = λ i h. let a = all-in-at t (count t) i (v .inside) h in record { forward = a .forward; short = omega (arith, a .within, v .short) };
       dimensions = dimensions-room w zero;
-      scale = scale-room w zero;
+      scale = w .primes zero;
     }
 
     -- an accepted reading writes its record

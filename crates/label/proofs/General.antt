@@ -66,7 +66,7 @@ pub data LabelBy (r : Rules) : List ℕ → Factor → List Part → Type 0 wher
   empty : LabelBy r [] no-factor []
   plain : {s : List ℕ} {ps : List Part} → Unspaced s → G r quotient s [] ps → LabelBy r s no-factor ps
   under : {s : List ℕ} {ps : List Part} → r .lead ≡ true → G r item s [] ps → LabelBy r (slash ∷ s) no-factor (turned-all ps)
-  factored : {x g s : List ℕ} {f : Factor} {ps : List Part} → FactorBy r x f → GapBy r g → G r quotient s [] ps → LabelBy r (x ++ (g ++ s)) f ps
+  factored : {x g s : List ℕ} {f : Factor} {ps : List Part} → r .factor ≡ true → FactorBy r x f → GapBy r g → G r quotient s [] ps → LabelBy r (x ++ (g ++ s)) f ps
 
 -- a product, where each slash joins: nothing is divided by a last item alone
 abbrev pub flat : Kind → Kind

@@ -89,7 +89,7 @@ fits-to (Fits.Fits.plain d) = G.plain (fits-to d)
 fits-to (Fits.Fits.over d i) = G.divided refl (fits-to d) (fits-to i)
 fits-to (Fits.Fits.group d) = G.group (fits-to d)
 
-spelling-fits : {l : List ℕ} → SpellingBy fits-rules l → Letters l
+pub spelling-fits : {l : List ℕ} → SpellingBy fits-rules l → Letters l
 spelling-fits (SpellingBy.letters d) = d
 spelling-fits (SpellingBy.percent f) = absurd (false-true f)
 spelling-fits (SpellingBy.quoted f d) = absurd (false-true f)
@@ -137,13 +137,13 @@ pub fits-label : {s : List ℕ} {f : Factor} {ps : List Part} → Fits.Label s f
 fits-label Fits.Label.empty = LabelBy.empty
 fits-label (Fits.Label.plain d) = plain-label refl (fits-to d)
 fits-label (Fits.Label.under d) = LabelBy.under refl (fits-to d)
-fits-label (Fits.Label.factored x g d) = LabelBy.factored (fits-factor x) (fits-gap g) (fits-to d)
+fits-label (Fits.Label.factored x g d) = LabelBy.factored refl (fits-factor x) (fits-gap g) (fits-to d)
 
 pub label-fits : {s : List ℕ} {f : Factor} {ps : List Part} → LabelBy fits-rules s f ps → Fits.Label s f ps
 label-fits LabelBy.empty = Fits.Label.empty
 label-fits (LabelBy.plain u d) = Fits.Label.plain (to-fits d)
 label-fits (LabelBy.under f d) = Fits.Label.under (to-fits d)
-label-fits (LabelBy.factored x g d) = Fits.Label.factored (factor-fits x) (gap-fits g) (to-fits d)
+label-fits (LabelBy.factored l x g d) = Fits.Label.factored (factor-fits x) (gap-fits g) (to-fits d)
 
 -- OGIP
 
@@ -181,7 +181,7 @@ ogip-over (Ogip.Over.slashed p q) = OverBy.slashed refl (spaces-pad p) (spaces-p
 over-ogip : {j : List ℕ} → OverBy ogip-rules j → Ogip.Over j
 over-ogip (OverBy.slashed f p q) = Ogip.Over.slashed (pad-spaces p) (pad-spaces q)
 
-spelling-ogip : {l : List ℕ} → SpellingBy ogip-rules l → Letters l
+pub spelling-ogip : {l : List ℕ} → SpellingBy ogip-rules l → Letters l
 spelling-ogip (SpellingBy.letters d) = d
 spelling-ogip (SpellingBy.percent f) = absurd (false-true f)
 spelling-ogip (SpellingBy.quoted f d) = absurd (false-true f)
@@ -224,13 +224,13 @@ gap-ogip (GapBy.many f p) = p
 pub ogip-label : {s : List ℕ} {f : Factor} {ps : List Part} → Ogip.Label s f ps → LabelBy ogip-rules s f ps
 ogip-label Ogip.Label.empty = LabelBy.empty
 ogip-label (Ogip.Label.plain u d) = LabelBy.plain u (G.plain (ogip-to d))
-ogip-label (Ogip.Label.factored x g d) = LabelBy.factored (ogip-factor x) (GapBy.many refl g) (G.plain (ogip-to d))
+ogip-label (Ogip.Label.factored x g d) = LabelBy.factored refl (ogip-factor x) (GapBy.many refl g) (G.plain (ogip-to d))
 
 pub label-ogip : {s : List ℕ} {f : Factor} {ps : List Part} → LabelBy ogip-rules s f ps → Ogip.Label s f ps
 label-ogip LabelBy.empty = Ogip.Label.empty
 label-ogip (LabelBy.plain u d) = Ogip.Label.plain u (to-ogip d)
 label-ogip (LabelBy.under f d) = absurd (false-true f)
-label-ogip (LabelBy.factored x g d) = Ogip.Label.factored (factor-ogip x) (gap-ogip g) (to-ogip d)
+label-ogip (LabelBy.factored l x g d) = Ogip.Label.factored (factor-ogip x) (gap-ogip g) (to-ogip d)
 
 -- CDS
 
@@ -245,11 +245,11 @@ exponent-cds (ExponentBy.bracketed f b) = absurd (false-true f)
 exponent-cds (ExponentBy.stars f p) = absurd (false-true f)
 exponent-cds (ExponentBy.caret f p) = absurd (false-true f)
 
-cds-spelling : {l : List ℕ} → Cds.Spelling l → SpellingBy cds-rules l
+pub cds-spelling : {l : List ℕ} → Cds.Spelling l → SpellingBy cds-rules l
 cds-spelling (Cds.Spelling.letters d) = SpellingBy.letters d
 cds-spelling Cds.Spelling.percent = SpellingBy.percent refl
 
-spelling-cds : {l : List ℕ} → SpellingBy cds-rules l → Cds.Spelling l
+pub spelling-cds : {l : List ℕ} → SpellingBy cds-rules l → Cds.Spelling l
 spelling-cds (SpellingBy.letters d) = Cds.Spelling.letters d
 spelling-cds (SpellingBy.percent f) = Cds.Spelling.percent
 spelling-cds (SpellingBy.quoted f d) = absurd (false-true f)
@@ -309,7 +309,7 @@ no-gap e f (GapBy.many h p) = absurd (false-true (sym f ∙ h))
 pub cds-label : {s : List ℕ} {f : Factor} {ps : List Part} → Cds.Label s f ps → LabelBy cds-rules s f ps
 cds-label Cds.Label.empty = LabelBy.empty
 cds-label (Cds.Label.plain d) = plain-label refl (G.plain (cds-to d))
-cds-label (Cds.Label.factored x d) = LabelBy.factored (cds-factor x) GapBy.nothing (G.plain (cds-to d))
+cds-label (Cds.Label.factored x d) = LabelBy.factored refl (cds-factor x) GapBy.nothing (G.plain (cds-to d))
 
 cds-factored : {x g s : List ℕ} {f : Factor} {ps : List Part} → Cds.Tens x f → Gapless g → Cds.Cds product s [] ps → Cds.Label (x ++ (g ++ s)) f ps
 cds-factored x Gapless.gapless d = Cds.Label.factored x d
@@ -318,7 +318,7 @@ pub label-cds : {s : List ℕ} {f : Factor} {ps : List Part} → LabelBy cds-rul
 label-cds LabelBy.empty = Cds.Label.empty
 label-cds (LabelBy.plain u d) = Cds.Label.plain (to-cds d)
 label-cds (LabelBy.under f d) = absurd (false-true f)
-label-cds (LabelBy.factored x g d) = cds-factored (factor-cds x) (no-gap refl refl g) (to-cds d)
+label-cds (LabelBy.factored l x g d) = cds-factored (factor-cds x) (no-gap refl refl g) (to-cds d)
 
 -- VOUNITS
 
@@ -333,11 +333,11 @@ exponent-vounits (ExponentBy.bracketed f b) = absurd (false-true f)
 exponent-vounits (ExponentBy.stars f p) = Vounits.Exponent.stars p
 exponent-vounits (ExponentBy.caret f p) = absurd (false-true f)
 
-vounits-spelling : {l : List ℕ} → Vounits.Spelling l → SpellingBy vounits-rules l
+pub vounits-spelling : {l : List ℕ} → Vounits.Spelling l → SpellingBy vounits-rules l
 vounits-spelling (Vounits.Spelling.letters d) = SpellingBy.letters d
 vounits-spelling (Vounits.Spelling.quoted d) = SpellingBy.quoted refl d
 
-spelling-vounits : {l : List ℕ} → SpellingBy vounits-rules l → Vounits.Spelling l
+pub spelling-vounits : {l : List ℕ} → SpellingBy vounits-rules l → Vounits.Spelling l
 spelling-vounits (SpellingBy.letters d) = Vounits.Spelling.letters d
 spelling-vounits (SpellingBy.percent f) = absurd (false-true f)
 spelling-vounits (SpellingBy.quoted f d) = Vounits.Spelling.quoted d
@@ -380,7 +380,7 @@ factor-vounits (FactorBy.plain f p) = Vounits.Tens.plain p
 pub vounits-label : {s : List ℕ} {f : Factor} {ps : List Part} → Vounits.Label s f ps → LabelBy vounits-rules s f ps
 vounits-label Vounits.Label.empty = LabelBy.empty
 vounits-label (Vounits.Label.plain d) = plain-label refl (vounits-to d)
-vounits-label (Vounits.Label.factored x d) = LabelBy.factored (vounits-factor x) GapBy.nothing (vounits-to d)
+vounits-label (Vounits.Label.factored x d) = LabelBy.factored refl (vounits-factor x) GapBy.nothing (vounits-to d)
 
 vounits-factored : {x g s : List ℕ} {f : Factor} {ps : List Part} → Vounits.Tens x f → Gapless g → Vounits.Vounits quotient s [] ps → Vounits.Label (x ++ (g ++ s)) f ps
 vounits-factored x Gapless.gapless d = Vounits.Label.factored x d
@@ -389,4 +389,4 @@ pub label-vounits : {s : List ℕ} {f : Factor} {ps : List Part} → LabelBy vou
 label-vounits LabelBy.empty = Vounits.Label.empty
 label-vounits (LabelBy.plain u d) = Vounits.Label.plain (to-vounits d)
 label-vounits (LabelBy.under f d) = absurd (false-true f)
-label-vounits (LabelBy.factored x g d) = vounits-factored (factor-vounits x) (no-gap refl refl g) (to-vounits d)
+label-vounits (LabelBy.factored l x g d) = vounits-factored (factor-vounits x) (no-gap refl refl g) (to-vounits d)

@@ -171,11 +171,11 @@ label-plain : (r : Rules) (f g : List ℕ → Found (List Part)) {s : List ℕ} 
 unfolding label-by
 label-plain r f g (unspaced e) (Plainly.plainly d l) = rw (e, d, l)
 
--- a digit begins a factor
-label-factored : (r : Rules) (f g : List ℕ → Found (List Part)) (s : List ℕ) (c : ℕ) (u : List ℕ) → s ≡ c ∷ u → digit c ≡ true
+-- a digit begins a factor, where one may lead
+label-factored : (r : Rules) (f g : List ℕ → Found (List Part)) (s : List ℕ) (c : ℕ) (u : List ℕ) → s ≡ c ∷ u → digit c ≡ true → r .factor ≡ true
     → label-by f g r s ≡ factored g r (factor r s)
 unfolding label-by digit
-label-factored r f g s c u e d = rw (e, differs digit c 32 (true→T d) refl, d)
+label-factored r f g s c u e d l = rw (e, differs digit c 32 (true→T d) refl, d, l)
 
 -- a slash with one item under it
 label-under : (r : Rules) (f g : List ℕ → Found (List Part)) (s : List ℕ) → r .lead ≡ true → label-by f g r (47 ∷ s) ≡ ended no-factor (f s)
@@ -199,9 +199,9 @@ label-complete {r} h (LabelBy.plain {s = s} {ps = ps} u d) =
     label-plain r _ _ u (starts-plainly h (quotient-starts d)) ∙ ended-found no-factor _ ps (complete d false Closes.end (fuel s) (omega arith))
 label-complete {r} h (LabelBy.under {s = s} {ps = ps} f d) =
     label-under r (λ u. read r (fuel (47 ∷ s)) item true u) _ s f ∙ ended-found no-factor _ (turned-all ps) (complete d true Ends.end (fuel (47 ∷ s)) (omega arith))
-label-complete {r} h (LabelBy.factored {x = x} {g = g} {s = s} {f = n} {ps = ps} f w d) =
+label-complete {r} h (LabelBy.factored {x = x} {g = g} {s = s} {f = n} {ps = ps} l f w d) =
     let c = factor-digit f (g ++ s) in
-    label-factored r _ _ (x ++ (g ++ s)) (c .0) (c .1) (c .2) (c .3)
+    label-factored r _ _ (x ++ (g ++ s)) (c .0) (c .1) (c .2) (c .3) l
     ∙ factored-found _ r _ n (g ++ s) ps
     (factor-complete r f (g ++ s) (gap-unfactored w s (starts-unfactored (quotient-starts d))))
     (complete (gap-derived w d) false Closes.end (fuel (x ++ (g ++ s))) (omega (arith, gap-short r (g ++ s), length-append x (g ++ s))))
@@ -261,12 +261,12 @@ under-sound r k s f ps l h =
     let w = read-sound r k item true s ps [] (e .is) in
     rw (← (e .same), w .signed) (LabelBy.under l (w .derivation))
 
-factored-label : {r : Rules} {f : Factor} {ps : List Part} (s x t g u : List ℕ) → s ≡ x ++ t → t ≡ g ++ u → FactorBy r x f → GapBy r g → G r quotient u [] ps → LabelBy r s f ps
-factored-label s x t g u p q d w i = rw (p, q) (LabelBy.factored d w i)
+factored-label : {r : Rules} {f : Factor} {ps : List Part} (s x t g u : List ℕ) → s ≡ x ++ t → t ≡ g ++ u → r .factor ≡ true → FactorBy r x f → GapBy r g → G r quotient u [] ps → LabelBy r s f ps
+factored-label s x t g u p q l d w i = rw (p, q) (LabelBy.factored l d w i)
 
-factored-sound : (r : Rules) (k : ℕ) (s : List ℕ) (f : Factor) (ps : List Part) → factored (λ u. read r k quotient false u) r (factor r s) ≡ parsed f ps → LabelBy r s f ps
+factored-sound : (r : Rules) (k : ℕ) (s : List ℕ) (f : Factor) (ps : List Part) → r .factor ≡ true → factored (λ u. read r k quotient false u) r (factor r s) ≡ parsed f ps → LabelBy r s f ps
 unfolding factored
-factored-sound r k s f ps h = go (factor r s) refl h
+factored-sound r k s f ps l h = go (factor r s) refl h
   where
     go : (x : Found Factor) → factor r s ≡ x → factored (λ u. read r k quotient false u) r x ≡ parsed f ps → LabelBy r s f ps
     go none p h = absurd (refused-parsed h)
@@ -274,7 +274,7 @@ factored-sound r k s f ps h = go (factor r s) refl h
         let e = ended-sound _ n f ps h in
         let x = factor-sound r s n t p in
         let g = gap-sound r t in
-        rw (← (e .same)) (factored-label s (x .0) t (g .0) (gap r t) (x .2) (g .2) (x .1) (g .1) (quotient-sound r k (gap r t) ps (e .is)))
+        rw (← (e .same)) (factored-label s (x .0) t (g .0) (gap r t) (x .2) (g .2) l (x .1) (g .1) (quotient-sound r k (gap r t) ps (e .is)))
 
 pub label-sound : (r : Rules) (s : List ℕ) (f : Factor) (ps : List Part) → parse-by r s ≡ parsed f ps → LabelBy r s f ps
 unfolding parse-by label-by
@@ -282,17 +282,22 @@ label-sound r [] f ps h =
     let p : no-factor ≡ f = cc in
     let q : [] ≡ ps = cc in
     rw (← p, ← q) LabelBy.empty
-label-sound r (c ∷ s) f ps h = go (eqb c 32) (digit c) (eqb c 47) (r .lead) refl refl refl h
+label-sound r (c ∷ s) f ps h = go (eqb c 32) (digit c) (r .factor) (eqb c 47) (r .lead) refl refl refl refl h
   where
     k : ℕ
     k = fuel (c ∷ s)
 
-    go : (x y z l : Bool) → eqb c 32 ≡ x → eqb c 47 ≡ z → r .lead ≡ l
-        → pick x refused (pick y (factored (λ u. read r k quotient false u) r (factor r (c ∷ s)))
+    others : (z l : Bool) → eqb c 32 ≡ false → eqb c 47 ≡ z → r .lead ≡ l
+        → pick (z && l) (ended no-factor (read r k item true s)) (ended no-factor (read r k quotient false (c ∷ s))) ≡ parsed f ps → LabelBy r (c ∷ s) f ps
+    others true true p q e h = rw (eqb-true c 47 q) (under-sound r k s f ps e h)
+    others true false p q e h = plain-sound r k (c ∷ s) f ps (unspaced p) h
+    others false l p q e h = plain-sound r k (c ∷ s) f ps (unspaced p) h
+
+    go : (x y w z l : Bool) → eqb c 32 ≡ x → r .factor ≡ w → eqb c 47 ≡ z → r .lead ≡ l
+        → pick x refused (pick (y && w) (factored (λ u. read r k quotient false u) r (factor r (c ∷ s)))
         (pick (z && l) (ended no-factor (read r k item true s)) (ended no-factor (read r k quotient false (c ∷ s))))) ≡ parsed f ps
         → LabelBy r (c ∷ s) f ps
-    go true y z l p q e h = absurd (refused-parsed h)
-    go false true z l p q e h = factored-sound r k (c ∷ s) f ps h
-    go false false true true p q e h = rw (eqb-true c 47 q) (under-sound r k s f ps e h)
-    go false false true false p q e h = plain-sound r k (c ∷ s) f ps (unspaced p) h
-    go false false false l p q e h = plain-sound r k (c ∷ s) f ps (unspaced p) h
+    go true y w z l p t q e h = absurd (refused-parsed h)
+    go false true true z l p t q e h = factored-sound r k (c ∷ s) f ps t h
+    go false true false z l p t q e h = others z l p q e h
+    go false false w z l p t q e h = others z l p q e h

@@ -13,6 +13,7 @@ pub mod Sound
 pub mod Labels
 pub mod Instances
 pub mod Widest
+pub mod Ruled
 pub mod Derivations
 pub mod Refusals
 pub mod Places

@@ -83,7 +83,7 @@ pub label-stands : {r : Rules} {s : List ℕ} {f : Factor} {ps : List Part} → 
 label-stands LabelBy.empty = AllStand.none
 label-stands (LabelBy.plain u d) = stand d
 label-stands (LabelBy.under f d) = further (47 ∷ []) (turned (stand d))
-label-stands (LabelBy.factored {x = x} {g = g} f w d) = further x (further g (stand d))
+label-stands (LabelBy.factored {x = x} {g = g} l f w d) = further x (further g (stand d))
 
 -- the bytes at that place are the spelling
 pub stands-there : {s : List ℕ} {p : Part} → Stands s p → take (length (p .spelling)) (drop (length s - p .left) s) ≡ p .spelling

@@ -13,7 +13,8 @@ use Rattle.label.specs.Grammar.{Derives}
 use Rattle.label.specs.Split.{Spelled, Split, Placed, Valued, valued, spelled, split-of, Condition, Refused, Accepts}
 use Rattle.label.specs.Reading.{Term, term, Reading, refusal, reading-of, Checked, refuse, accept, checked, answered, reading}
 use Rattle.label.specs.Agreement.{Raised, raised-in, raised-term, bytes-at, Gives}
-use Rattle.label.proofs.Derivations.{same-derivation, derives-by}
+use Rattle.label.proofs.Ruled.{derives-by}
+use Rattle.label.proofs.Derivations.{same-derivation}
 use Rattle.label.proofs.Refusals.{bounds, Values, valued-values, Outcome, outcome}
 use Rattle.label.proofs.Places.{AllStand, label-stands, stands-there}
 

@@ -24,6 +24,7 @@ all-rules = record {
   each = true;
   within = false;
   lead = false;
+  factor = true;
   wrapped = true;
   signed = true;
   plain = true;
@@ -107,4 +108,4 @@ pub label-wider : {r : Rules} {s : List ℕ} {f : Factor} {ps : List Part} → L
 label-wider LabelBy.empty = LabelBy.empty
 label-wider (LabelBy.plain u d) = LabelBy.plain u (G.plain (wider d))
 label-wider (LabelBy.under f d) = LabelBy.plain (unspaced refl) (G.plain (under-wider (wider d)))
-label-wider (LabelBy.factored x g d) = LabelBy.factored (factor-wider x) (gap-wider g) (G.plain (wider d))
+label-wider (LabelBy.factored l x g d) = LabelBy.factored refl (factor-wider x) (gap-wider g) (G.plain (wider d))

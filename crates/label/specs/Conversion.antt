@@ -7,7 +7,7 @@ use lib.IntN.{ℤ, pos, negsuc, _-ℤ_, natAbs}
 use Rattle.label.specs.declared.Exponent.{Exponent}
 use Rattle.label.specs.declared.Tens.{Tens}
 use Rattle.label.specs.Limits.{parts-of-one, signed, negative}
-use Rattle.label.specs.Reading.{Reading, reading}
+use Rattle.label.specs.Reading.{Scale, Reading, reading}
 
 pub record Conversion : Type 0 where
   pub number : ℕ
@@ -41,16 +41,24 @@ same-exponents [] (f ∷ fs) = false
 same-exponents (e ∷ es) [] = false
 same-exponents (e ∷ es) (f ∷ fs) = same-whole (e .0) (f .0) && same-exponents es fs
 
--- the exponents of the primes in first over second
-unfoldable pub over : List Exponent → List Exponent → List Exponent
-over [] fs = []
-over (e ∷ es) [] = []
-over (e ∷ es) (f ∷ fs) = record { 0 = e .0 -ℤ f .0 } ∷ over es fs
+-- the exponents of the four primes in "first over second"
+abbrev pub difference : Exponent → Exponent → Exponent
+difference e f = record { 0 = e .0 -ℤ f .0 }
+
+unfoldable pub over : Scale → Scale → Scale
+over a b = record {
+  of-2 = difference (a .of-2) (b .of-2);
+  of-3 = difference (a .of-3) (b .of-3);
+  of-5 = difference (a .of-5) (b .of-5);
+  of-487 = difference (a .of-487) (b .of-487);
+}
+
+abbrev pub is-whole : Exponent → Bool
+is-whole e = eqb (natAbs (e .0) % parts-of-one) 0
 
 -- 10: "The factor is a fraction exactly if these four have whole exponents in first over second."
-unfoldable pub all-whole : List Exponent → Bool
-all-whole [] = true
-all-whole (e ∷ es) = eqb (natAbs (e .0) % parts-of-one) 0 && all-whole es
+unfoldable pub all-whole : Scale → Bool
+all-whole c = is-whole (c .of-2) && (is-whole (c .of-3) && (is-whole (c .of-5) && is-whole (c .of-487)))
 
 -- the whole number that an exponent of sixtieths is
 abbrev pub whole : Exponent → ℤ
@@ -74,13 +82,9 @@ fraction a b c d = record {
   k = record { 0 = c };
 }
 
--- the fraction that the exponents of 2, 3, 5 and 487 give
-unfoldable pub fraction-of : List Exponent → Conversion
-fraction-of [] = refuse 10
-fraction-of (a ∷ []) = refuse 10
-fraction-of (a ∷ b ∷ []) = refuse 10
-fraction-of (a ∷ b ∷ c ∷ []) = refuse 10
-fraction-of (a ∷ b ∷ c ∷ d ∷ es) = fraction (whole a) (whole b) (whole c) (whole d)
+-- the fraction that a scale with whole exponents is
+unfoldable pub fraction-of : Scale → Conversion
+fraction-of c = fraction (whole (c .of-2)) (whole (c .of-3)) (whole (c .of-5)) (whole (c .of-487))
 
 -- 11: "numerator or denominator above 2 to the 53, or k outside -9,999 to 9,999"
 abbrev pub small : Conversion → Bool

@@ -1,4 +1,4 @@
--- The words that the four grammars share: spellings, integers, decimals, powers, plain factors; and what a label is read into.
+-- The words that the grammars share: spellings, integers, decimals, powers, plain factors; and what a label is read into.
 use Prim.Native.Nat.{ℕ, suc}
 use mathlib.Core.Bool.{Bool, true, false, not}
 use mathlib.Core.List.{List, [], _∷_, _++_, map}

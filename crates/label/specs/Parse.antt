@@ -266,7 +266,7 @@ unfoldable pub label-by : (List ℕ → Found (List Part)) → (List ℕ → Fou
 label-by f g r [] = parsed no-factor []
 label-by f g r (c ∷ s) =
     pick (eqb c space) refused
-    (pick (digit c) (factored g r (factor r (c ∷ s)))
+    (pick (digit c && r .factor) (factored g r (factor r (c ∷ s)))
     (pick (eqb c slash && r .lead) (ended no-factor (f s))
     (ended no-factor (g (c ∷ s)))))
 

@@ -103,8 +103,18 @@ dimensions-of ts = map (λ (b : ℕ). total (base-in b) ts) all-bases
 abbrev pub primes : List ℕ
 primes = 2 ∷ 3 ∷ 5 ∷ 487 ∷ []
 
-unfoldable pub scale-of : Tens → List Term → List Exponent
-scale-of k ts = map (λ (p : ℕ). sum (times (in-tens p k) one) (total (prime-in p) ts)) primes
+-- the exponent of each of these four
+pub record Scale : Type 0 where
+  pub of-2 : Exponent
+  pub of-3 : Exponent
+  pub of-5 : Exponent
+  pub of-487 : Exponent
+
+abbrev pub by-prime : (ℕ → Exponent) → Scale
+by-prime e = record { of-2 = e 2; of-3 = e 3; of-5 = e 5; of-487 = e 487 }
+
+unfoldable pub scale-of : Tens → List Term → Scale
+scale-of k ts = by-prime (λ p. sum (times (in-tens p k) one) (total (prime-in p) ts))
 
 -- THE ANSWER
 
@@ -117,8 +127,7 @@ pub record Reading : Type 0 where
   pub recommended : Bool
   -- the exponent of each base, by its number
   pub dimensions : List Exponent
-  -- the exponents of 2, 3, 5 and 487
-  pub scale : List Exponent
+  pub scale : Scale
 
 -- "A refused reading has no terms, k = 0, no dimensions, scale 1 and all verdicts no."
 unfoldable pub refusal : ℕ → Reading
@@ -130,7 +139,7 @@ refusal i = record {
   lawful = false;
   recommended = false;
   dimensions = map (λ (b : ℕ). nothing) all-bases;
-  scale = map (λ (p : ℕ). nothing) primes;
+  scale = by-prime (λ p. nothing);
 }
 
 unfoldable pub reading-of : ℕ → Tens → List Term → Reading

@@ -2,10 +2,9 @@
 use Prim.Native.Nat.{ℕ}
 use mathlib.Core.Bool.{true, false}
 use mathlib.Core.List.{List, [], _∷_}
-use mathlib.Core.Option.{Option, none, some}
-use lib.Dec.{eqb}
+use mathlib.Core.Option.{Option}
 use Rattle.label.specs.declared.Rules.{Rules}
-use Rattle.label.specs.Notations.{fits, ogip, cds, vounits}
+use Rattle.label.specs.Notations.{fits, ogip, cds, vounits, Row, value-among}
 
 abbrev pub fits-rules : Rules
 fits-rules = record {
@@ -22,6 +21,7 @@ fits-rules = record {
   each = false;
   within = false;
   lead = true;
+  factor = true;
   wrapped = true;
   signed = true;
   plain = false;
@@ -42,6 +42,7 @@ ogip-rules = record {
   each = true;
   within = false;
   lead = false;
+  factor = true;
   wrapped = true;
   signed = false;
   plain = true;
@@ -62,6 +63,7 @@ cds-rules = record {
   each = true;
   within = false;
   lead = false;
+  factor = true;
   wrapped = false;
   signed = true;
   plain = true;
@@ -82,28 +84,20 @@ vounits-rules = record {
   each = false;
   within = true;
   lead = false;
+  factor = true;
   wrapped = true;
   signed = false;
   plain = true;
 }
 
--- a notation's number and its rules
-pub record Ruled : Type 0 where
-  pub number : ℕ
-  pub rules : Rules
-
-unfoldable pub ruled : List Ruled
+unfoldable pub ruled : List (Row Rules)
 ruled =
-    record { number = fits; rules = fits-rules }
-    ∷ record { number = ogip; rules = ogip-rules }
-    ∷ record { number = cds; rules = cds-rules }
-    ∷ record { number = vounits; rules = vounits-rules }
+    record { number = fits; value = fits-rules }
+    ∷ record { number = ogip; value = ogip-rules }
+    ∷ record { number = cds; value = cds-rules }
+    ∷ record { number = vounits; value = vounits-rules }
     ∷ []
-
-unfoldable pub rules-among : ℕ → List Ruled → Option Rules
-rules-among n [] = none
-rules-among n (x ∷ xs) = elim (eqb n (x .number)) [ true ↦ some (x .rules) | false ↦ rules-among n xs ]
 
 -- the rules of notation n
 unfoldable pub rules-of : ℕ → Option Rules
-rules-of n = rules-among n ruled
+rules-of n = value-among n ruled

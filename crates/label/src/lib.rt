@@ -28,7 +28,9 @@ pub struct Rules {
     pub each: bool,
     pub within: bool,
     pub lead: bool,
-    // Factors: 10 to an integer in brackets; 10 and a signed integer; plain 1, 10, 100 and so on.
+    // Factors: whether a label may have one, at least as 10, two stars and an integer; then also 10 to an integer in brackets;
+    // 10 and a signed integer; plain 1, 10, 100 and so on.
+    pub factor: bool,
     pub wrapped: bool,
     pub signed: bool,
     pub plain: bool,

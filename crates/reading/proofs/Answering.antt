@@ -15,7 +15,7 @@ use Rattle.descent.specs.Terms.{Lent, lent, count}
 use Rattle.content.specs.declared.verdicts.Verdicts.{Verdicts}
 use Rattle.checks.specs.declared.check.Checked.{Checked}
 use Rattle.reading.specs.declared.read.Answer.{Answer}
-use Rattle.content.specs.Views.{term-in, terms-in}
+use Rattle.content.specs.Views.{term-in, terms-in, scale-in}
 use Rattle.content.specs.Named.{Nameable, AllNamed}
 use Rattle.content.specs.Verdicts.{VerdictsOn}
 use Rattle.content.proofs.Naming.{terms-length, nth-term}
@@ -27,11 +27,12 @@ use Rattle.reading.specs.Answers.{answer, Accepted, Reads}
 pub accepted₁ : {n : ℕ} {s p : List ℕ} {k : Tens} {e : List ℤ} {x : List ℕ} {v : Verdicts} {ds cs : List ℤ} → AllNamed n s (lent p e) x
     → ((s : List ℕ) (t : Lent) → VerdictsOn n (terms-in s t x (count (lent p e))) v)
     → ((s p' : List ℕ) → map exponent ds ≡ dimensions-of (terms-in s (lent p' e) x (count (lent p e))))
-    → ((s p' : List ℕ) → map exponent cs ≡ scale-of k (terms-in s (lent p' e) x (count (lent p e))))
+    → (length cs ≡ 4) × ((s p' : List ℕ) → scale-in cs ≡ scale-of k (terms-in s (lent p' e) x (count (lent p e))))
     → Accepted n s k (lent p e) x ds cs v
 unfolding reading-in reading-of
 accepted₁ {n} {s} {p} {k} {e} w v d c = record {
-  is = rw (v s (lent p e) .known-is, v s (lent p e) .lawful-is, v s (lent p e) .recommended-is, d s p, c s p, w .is);
+  is = rw (v s (lent p e) .known-is, v s (lent p e) .lawful-is, v s (lent p e) .recommended-is, d s p, c .1 s p, w .is);
+  primes = c .0;
   letters = w .letters;
 }
 
@@ -52,6 +53,7 @@ module _ {n : ℕ} {s : List ℕ} {z : Lent} {c : Checked} (w : Checks n s z c) 
     read₁ e = let h = refused-number n s refuses in record {
       number = e ∙ sym (rw refuses);
       is = λ q. absurd (omega arith);
+      primes = λ q. absurd (omega arith);
       counted = λ q. absurd (omega arith);
       within = λ q. absurd (omega arith);
       letters = λ q. absurd (omega arith);
@@ -69,6 +71,7 @@ module _ {n : ℕ} {s : List ℕ} {z : Lent} {c : Checked} (w : Checks n s z c) 
     read₂ {x} {ds} {cs} {v} a = record {
       number = ap (λ (u : spec.Reading). u .number) whole;
       is = λ q. whole;
+      primes = λ q. a .primes;
       counted = λ q. sym (terms-length s z x (count z)) ∙ ap (λ (u : spec.Reading). length (u .terms)) whole;
       within = λ q. read-nameable;
       letters = λ q i h u.
@@ -91,16 +94,12 @@ unfolding reading-in
 term-read {n} {s} {t} {x} w zero i d h =
     ap (λ (u : spec.Reading). getD (u .terms) i d) (sym (w .is zero)) ∙ nth-term s t x (count t) i d h
 
-rooms : (n : ℕ) (s : List ℕ) (c : spec.Checked) → (length (answered n s c .dimensions) ≡ 32) × (length (answered n s c .scale) ≡ 4)
-unfolding answered refusal reading-of dimensions-of scale-of up-to
-rooms n s (spec.refuse i) = (refl, refl)
-rooms n s (spec.accept v) = (refl, refl)
+every-base : (n : ℕ) (s : List ℕ) (c : spec.Checked) → length (answered n s c .dimensions) ≡ 32
+unfolding answered refusal reading-of dimensions-of up-to
+every-base n s (spec.refuse i) = refl
+every-base n s (spec.accept v) = refl
 
-module _ {n : ℕ} {s : List ℕ} {t : Lent} {x : List ℕ} {ds cs : List ℤ} {r : Answer} (w : Reads n s t x ds cs r) (zero : r .number ≡ 0) where
-  pub dimensions-room : length ds ≡ 32
-  unfolding reading reading-in
-  dimensions-room = sym (length-map ds exponent) ∙ ap (λ (u : spec.Reading). length (u .dimensions)) (w .is zero) ∙ rooms n s (checked n s) .0
-
-  pub scale-room : length cs ≡ 4
-  unfolding reading reading-in
-  scale-room = sym (length-map cs exponent) ∙ ap (λ (u : spec.Reading). length (u .scale)) (w .is zero) ∙ rooms n s (checked n s) .1
+pub dimensions-room : {n : ℕ} {s : List ℕ} {t : Lent} {x : List ℕ} {ds cs : List ℤ} {r : Answer} → Reads n s t x ds cs r → r .number ≡ 0 → length ds ≡ 32
+unfolding reading reading-in
+dimensions-room {n} {s} {ds = ds} w zero =
+    sym (length-map ds exponent) ∙ ap (λ (u : spec.Reading). length (u .dimensions)) (w .is zero) ∙ every-base n s (checked n s)

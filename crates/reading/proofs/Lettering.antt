@@ -20,7 +20,7 @@ use Rattle.label.specs.Reading.{Term, term, answered, refusal, reading-of, read
 use Rattle.label.proofs.Basics.{both, T-and, true→T, differs, Stops, run-of, past-of}
 use Rattle.label.proofs.General.{SpellingBy, G, LabelBy}
 use Rattle.label.proofs.LexComplete.{prefix-letters}
-use Rattle.label.proofs.Derivations.{derives-by}
+use Rattle.label.proofs.Ruled.{derives-by}
 use Rattle.label.proofs.Refusals.{Values, valued-values}
 use Rattle.label.proofs.Readings.{Answered, answer-of}
 use Rattle.symbols.specs.Views.{place}
@@ -165,7 +165,7 @@ label-spells : {r : Rules} {s : List ℕ} {f : Factor} {ps : List Part} → Labe
 label-spells LabelBy.empty = AllSpell.none-spells
 label-spells (LabelBy.plain u d) = spell d
 label-spells (LabelBy.under f d) = turned (spell d)
-label-spells (LabelBy.factored f w d) = spell d
+label-spells (LabelBy.factored l f w d) = spell d
 
 -- READINGS
 

@@ -27,6 +27,7 @@ answer k v = record { number = 0; k = k; known = v .known; lawful = v .lawful; r
 -- a label that no refusal is due for
 pub record Accepted (n : ℕ) (s : List ℕ) (k : Tens) (t : Lent) (x : List ℕ) (ds cs : List ℤ) (v : Verdicts) : Type 0 where
   pub is : reading-in s t x ds cs (answer k v) ≡ reading-of n k (map (term n (length s)) (units-in s t))
+  pub primes : length cs ≡ 4
   pub letters : (i : ℕ) → i < count t → getD x (32 + i) 0 ≡ 0 → LettersIn t x i
 
 -- the letters of the unknown unit of term i, one or more, stand in the term's spelling
@@ -35,11 +36,12 @@ pub record Lettered (t : Lent) (x : List ℕ) (i : ℕ) : Type 0 where
   pub some : getD x (64 + i) 0 < getD x (96 + i) 0
   pub upto : getD x (96 + i) 0 ≤ getD (t .places) (32 + i) 0
 
--- "what reading the text s in notation n answers": the number; and where it is 0, all else. Then there are at most 32 terms, whose
--- spellings stand in the label, and the letters of an unknown unit stand in its term's spelling.
+-- "what reading the text s in notation n answers": the number; and where it is 0, all else. Then the array of primes has four places, there
+-- are at most 32 terms, whose spellings are in the label, and the letters of an unknown unit are in its term's spelling.
 pub record Reads (n : ℕ) (s : List ℕ) (t : Lent) (x : List ℕ) (ds cs : List ℤ) (r : Answer) : Type 0 where
   pub number : r .number ≡ reading n s .number
   pub is : r .number ≡ 0 → reading-in s t x ds cs r ≡ reading n s
+  pub primes : r .number ≡ 0 → length cs ≡ 4
   pub counted : r .number ≡ 0 → count t ≡ length (reading n s .terms)
   pub within : r .number ≡ 0 → Nameable s t
   pub letters : r .number ≡ 0 → (i : ℕ) → i < count t → getD x (32 + i) 0 ≡ 0 → Lettered t x i

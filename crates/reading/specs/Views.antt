@@ -5,7 +5,7 @@ use lib.IntN.{ℤ}
 use Rattle.label.specs.Reading.{exponent}
 use Rattle.label.specs.Reading as spec
 use Rattle.descent.specs.Terms.{Lent, count}
-use Rattle.content.specs.Views.{terms-in}
+use Rattle.content.specs.Views.{terms-in, scale-in}
 use Rattle.reading.specs.declared.read.Answer.{Answer}
 
 -- a reading of the label s: terms in t, what their spellings stand for in x, the dimensions in ds and the scale in cs
@@ -18,5 +18,5 @@ reading-in s t x ds cs r = record {
   lawful = r .lawful;
   recommended = r .recommended;
   dimensions = map exponent ds;
-  scale = map exponent cs;
+  scale = scale-in cs;
 }

@@ -9,12 +9,12 @@ use lib.Seq.{take-all}
 use Rattle.label.specs.Reading as spec
 use Rattle.label.specs.Reading.{exponent}
 use Rattle.descent.specs.Terms.{Lent, count}
-use Rattle.content.specs.Views.{term-in, terms-in}
+use Rattle.content.specs.Views.{term-in, terms-in, scale-in}
 use Rattle.content.proofs.Naming.{terms-length}
 use Rattle.content.proofs.Naming.{terms-more as one-more}
 use Rattle.reading.specs.declared.read.Answer.{Answer}
 use Rattle.reading.specs.Views.{reading-in}
-use Rattle.record.specs.Record.{eight, encoded, no-fields, term-fields, terms-fields, empty-fields, sixtieths, head-of, head-fields, fields, record-of}
+use Rattle.record.specs.Record.{eight, encoded, no-fields, term-fields, terms-fields, empty-fields, sixtieths, scale-fields, head-of, head-fields, fields, record-of}
 
 pub encoded-join : (xs ys : List ℤ) → encoded (xs ++ ys) ≡ encoded xs ++ encoded ys
 unfolding encoded
@@ -130,9 +130,17 @@ same-sixtieths : (zs : List ℤ) → map sixtieths (map exponent zs) ≡ zs
 same-sixtieths [] = refl
 same-sixtieths (z ∷ zs) = ap (λ (xs : List ℤ). z ∷ xs) (same-sixtieths zs)
 
+same-scale : (cs : List ℤ) → length cs ≡ 4 → scale-fields (scale-in cs) ≡ cs
+same-scale (a ∷ b ∷ c ∷ d ∷ []) h = refl
+same-scale [] h = absurd (omega arith)
+same-scale (a ∷ []) h = absurd (omega arith)
+same-scale (a ∷ b ∷ []) h = absurd (omega arith)
+same-scale (a ∷ b ∷ c ∷ []) h = absurd (omega arith)
+same-scale (a ∷ b ∷ c ∷ d ∷ e ∷ es) h = absurd (omega arith)
+
 -- the numbers of a reading, from its parts
-pub fields-are : (s : List ℕ) (t : Lent) (x : List ℕ) (ds cs : List ℤ) (a : Answer) {h : List ℤ}
+pub fields-are : (s : List ℕ) (t : Lent) (x : List ℕ) (ds cs : List ℤ) (a : Answer) {h : List ℤ} → length cs ≡ 4
     → h ≡ head-of (a .number) (a .k) (a .known) (a .lawful) (a .recommended) (count t)
     → encoded (h ++ (terms-fields (terms-in s t x (count t)) ++ (empty-fields (32 - count t) ++ (ds ++ cs)))) ≡ record-of (reading-in s t x ds cs a)
 unfolding reading-in head-fields fields record-of
-fields-are s t x ds cs a q = rw (q, terms-length s t x (count t), same-sixtieths ds, same-sixtieths cs)
+fields-are s t x ds cs a e q = rw (q, terms-length s t x (count t), same-sixtieths ds, same-scale cs e)

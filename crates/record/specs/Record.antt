@@ -13,7 +13,7 @@ use Rattle.label.specs.declared.Tens.{Tens}
 use Rattle.label.specs.Choice.{pick}
 use Rattle.label.specs.Limits.{most-terms}
 use Rattle.label.specs.Symbols.{Symbol, known, unknown}
-use Rattle.label.specs.Reading.{Term, Reading}
+use Rattle.label.specs.Reading.{Term, Scale, Reading}
 
 -- A NUMBER IN EIGHT BYTES
 
@@ -93,12 +93,15 @@ head-of n k a b c count = pos n ∷ k .0 ∷ flag a ∷ flag b ∷ flag c ∷ po
 unfoldable pub head-fields : Reading → List ℤ
 head-fields r = head-of (r .number) (r .k) (r .known) (r .lawful) (r .recommended) (length (r .terms))
 
+abbrev pub scale-fields : Scale → List ℤ
+scale-fields c = c .of-2 .0 ∷ c .of-3 .0 ∷ c .of-5 .0 ∷ c .of-487 .0 ∷ []
+
 -- then 32 places for terms, the exponent of each base, and the exponents of 2, 3, 5 and 487
 unfoldable pub fields : Reading → List ℤ
 fields r =
     head-fields r
     ++ (terms-fields (r .terms)
-    ++ (empty-fields (most-terms - length (r .terms)) ++ (map sixtieths (r .dimensions) ++ map sixtieths (r .scale))))
+    ++ (empty-fields (most-terms - length (r .terms)) ++ (map sixtieths (r .dimensions) ++ scale-fields (r .scale))))
 
 unfoldable pub record-of : Reading → List ℕ
 record-of r = encoded (fields r)

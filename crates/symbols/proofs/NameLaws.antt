@@ -21,7 +21,7 @@ use Rattle.symbols.specs.Columns.{name-lengths, name-keys, name-notation
 use Rattle.symbols.specs.Views.{place}
 use Rattle.symbols.proofs.Computing.{columns-compute}
 use Rattle.symbols.proofs.KeyLaws.{keyable, long-other, Spelled, agrees-spelled}
-use Rattle.symbols.proofs.SetLaws.{alike, told-by-bits, bit-member}
+use Rattle.symbols.proofs.SetLaws.{alike, all-below, told-by-bits, bit-member}
 use Rattle.symbols.proofs.RowLaws.{every, every-at, first, first-none, at-place, Sought, sought-none, sought-all, sought-hit, sought-miss}
 
 -- THE LIST OF NAMES FINDS WHAT THE TABLE FINDS
@@ -70,7 +70,7 @@ sound : Entry → Bool
 sound x = keyable (x .letters) && (told-by-bits (x .known-in) && leb (x .unit) 60)
 
 names-sound : T (every sound names)
-unfolding every sound keyable told-by-bits alike columns-compute
+unfolding every sound keyable told-by-bits all-below alike columns-compute
 names-sound = tt
 
 names-count : length names ≡ 67
@@ -82,7 +82,7 @@ nobody : Entry
 nobody = record { letters = []; known-in = []; unit = 0 }
 
 nobody-sound : T (sound nobody)
-unfolding sound nobody keyable told-by-bits alike columns-compute
+unfolding sound nobody keyable told-by-bits all-below alike columns-compute
 nobody-sound = tt
 
 entry : ℕ → Entry

@@ -1,6 +1,7 @@
 -- Sets of notations as bits: a test of a set, and the law that a bit then tells a member.
 use Prim.Native.Nat.{ℕ, zero, suc, _≤_, _<_}
 use native.Mathlib.Omega.{arith}
+use native.Mathlib.Decide.{ℕ-discrete, decLt}
 use mathlib.Core.Path.{_≡_, refl, sym, _∙_}
 use mathlib.Core.Bool.{Bool, true, false, _&&_, not}
 use mathlib.Core.List.{[], _∷_}
@@ -9,7 +10,7 @@ use borrow.Author.Tests.{lt-leb, ne-eqb}
 use Rattle.label.proofs.Basics.{both}
 use Rattle.label.specs.Bytes.{all}
 use Rattle.label.specs.Notations.{Notations, member}
-use Rattle.symbols.specs.Sets.{bits, has-bit}
+use Rattle.symbols.specs.Sets.{bits, room, has-bit}
 
 -- the same truth
 unfoldable pub alike : Bool → Bool → Bool
@@ -21,21 +22,34 @@ unfolding alike
 alike-is true true t = refl
 alike-is false false t = refl
 
--- a set of notations from 1 to 4, each of which its bits tell
-unfoldable pub told-by-bits : Notations → Bool
-told-by-bits ns =
-    all (λ n. leb n 4) ns && all (λ n. alike (has-bit n (bits ns)) (member n ns)) (0 ∷ 1 ∷ 2 ∷ 3 ∷ 4 ∷ [])
+-- the test p of every number below k
+unfoldable pub all-below : (ℕ → Bool) → ℕ → Bool
+all-below p zero = true
+all-below p (suc k) = p k && all-below p k
 
-none-above : (n : ℕ) (ns : Notations) → 4 < n → T (all (λ m. leb m 4) ns) → member n ns ≡ false
+below-at : (p : ℕ → Bool) (k n : ℕ) → n < k → T (all-below p k) → T (p n)
+unfolding all-below
+below-at p zero n h t = absurd (omega arith)
+below-at p (suc k) n h t = go (ℕ-discrete n k) (λ e. below-at p k n (omega arith) (both (p k) (all-below p k) t .1))
+  where
+    go : Dec (n ≡ k) → ((n ≡ k → ⊥) → T (p n)) → T (p n)
+    go (yes e) ih = rw e (both (p k) (all-below p k) t .0)
+    go (no e) ih = ih e
+
+-- a set of notations for which there is room, each of which its bits tell
+unfoldable pub told-by-bits : Notations → Bool
+told-by-bits ns = all (λ n. leb n room) ns && all-below (λ n. alike (has-bit n (bits ns)) (member n ns)) (suc room)
+
+none-above : (n : ℕ) (ns : Notations) → room < n → T (all (λ m. leb m room) ns) → member n ns ≡ false
 unfolding all member
 none-above n [] h t = refl
 none-above n (m ∷ ns) h t =
-    let w = both (leb m 4) (all (λ m. leb m 4) ns) t in
-    let g : m ≤ 4 = leb→le m 4 (w .0) in
+    let w = both (leb m room) (all (λ m. leb m room) ns) t in
+    let g : m ≤ room = leb→le m room (w .0) in
     rw (ne-eqb n m (λ e. omega arith)) (none-above n ns h (w .1))
 
-no-bit : (n b : ℕ) → 4 < n → has-bit n b ≡ false
-no-bit n b h = rw (lt-leb n 4 h) (and-false (leb 1 n) _)
+no-bit : (n b : ℕ) → room < n → has-bit n b ≡ false
+no-bit n b h = rw (lt-leb n room h) (and-false (leb 1 n) _)
   where
     and-false : (x y : Bool) → ((x && false) && y) ≡ false
     and-false true y = refl
@@ -43,22 +57,15 @@ no-bit n b h = rw (lt-leb n 4 h) (and-false (leb 1 n) _)
 
 -- The bits of a set of the tables tell its members.
 pub bit-member : (n : ℕ) (ns : Notations) → T (told-by-bits ns) → has-bit n (bits ns) ≡ member n ns
-unfolding told-by-bits all
-bit-member n ns t = go n (both (all (λ m. leb m 4) ns) _ t .1)
+unfolding told-by-bits
+bit-member n ns t = go (decLt room n)
   where
-    low : T (all (λ m. leb m 4) ns)
-    low = both (all (λ m. leb m 4) ns) _ t .0
+    low : T (all (λ m. leb m room) ns)
+    low = both (all (λ m. leb m room) ns) _ t .0
 
-    at : ℕ → Bool
-    at n = alike (has-bit n (bits ns)) (member n ns)
+    same : ℕ → Bool
+    same n = alike (has-bit n (bits ns)) (member n ns)
 
-    go : (n : ℕ) → T (at 0 && (at 1 && (at 2 && (at 3 && (at 4 && true))))) → has-bit n (bits ns) ≡ member n ns
-    go zero t = alike-is _ _ (both (at 0) _ t .0)
-    go (suc zero) t = alike-is _ _ (both (at 1) _ (both (at 0) _ t .1) .0)
-    go (suc (suc zero)) t = alike-is _ _ (both (at 2) _ (both (at 1) _ (both (at 0) _ t .1) .1) .0)
-    go (suc (suc (suc zero))) t = alike-is _ _ (both (at 3) _ (both (at 2) _ (both (at 1) _ (both (at 0) _ t .1) .1) .1) .0)
-    go (suc (suc (suc (suc zero)))) t =
-        alike-is _ _ (both (at 4) _ (both (at 3) _ (both (at 2) _ (both (at 1) _ (both (at 0) _ t .1) .1) .1) .1) .0)
-    go (suc (suc (suc (suc (suc n))))) t =
-        no-bit (suc (suc (suc (suc (suc n))))) (bits ns) (omega arith)
-        ∙ sym (none-above (suc (suc (suc (suc (suc n))))) ns (omega arith) low)
+    go : Dec (room < n) → has-bit n (bits ns) ≡ member n ns
+    go (yes h) = no-bit n (bits ns) h ∙ sym (none-above n ns h low)
+    go (no h) = alike-is _ _ (below-at same (suc room) n (omega arith) (both (all (λ m. leb m room) ns) _ t .1))

@@ -24,7 +24,7 @@ use Rattle.symbols.specs.Slots.{unused, slot, prime-at, prime-slot, four
 use Rattle.symbols.specs.Columns.{prefix-powers, unit-prefixed, unit-recommended, unit-bases, unit-powers, unit-primes}
 use Rattle.symbols.specs.Views.{place, slot-in}
 use Rattle.symbols.proofs.Computing.{columns-compute}
-use Rattle.symbols.proofs.SetLaws.{alike, told-by-bits, bit-member}
+use Rattle.symbols.proofs.SetLaws.{alike, all-below, told-by-bits, bit-member}
 use Rattle.symbols.proofs.SymbolLaws.{placed-at}
 use Rattle.symbols.proofs.RowLaws.{every, every-at}
 
@@ -38,11 +38,11 @@ set-told : KnownUnit → Bool
 set-told u = told-by-bits (u .prefixed-in)
 
 sets-told : T (every set-told units)
-unfolding every set-told told-by-bits alike columns-compute
+unfolding every set-told told-by-bits all-below alike columns-compute
 sets-told = tt
 
 no-set-told : T (set-told no-unit)
-unfolding set-told told-by-bits alike columns-compute
+unfolding set-told told-by-bits all-below alike columns-compute
 no-set-told = tt
 
 -- the bits of a row's set tell where a prefix is lawful

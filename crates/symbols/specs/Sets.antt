@@ -4,13 +4,17 @@ use mathlib.Core.Bool.{Bool, _&&_}
 use mathlib.Core.List.{[], _∷_}
 use lib.Dec.{eqb}
 use Rattle.label.specs.Bytes.{within}
-use Rattle.label.specs.Notations.{Notations, fits, vounits}
+use Rattle.label.specs.Notations.{Notations}
 
 -- notation n has bit n - 1
 unfoldable pub bits : Notations → ℕ
 bits [] = 0
 bits (n ∷ ns) = 2 ^ (n - 1) + bits ns
 
--- n is a notation, and its bit is set in b
+-- a set is a byte, so it has room for the notations 1 to 8
+abbrev pub room : ℕ
+room = 8
+
+-- n is from 1 to 8, and its bit is set in b
 abbrev pub has-bit : ℕ → ℕ → Bool
-has-bit n b = within fits vounits n && eqb (b / 2 ^ (n - 1) % 2) 1
+has-bit n b = within 1 room n && eqb (b / 2 ^ (n - 1) % 2) 1

@@ -34,14 +34,14 @@ pub fn same_symbol(size: usize, number: u64, symbol_size: u8, symbol_number: u64
     false
 }
 
-// Whether `n` is a notation of the set.
+// Whether `n` is a notation of the set. A set is a byte, so it has no notation above 8.
 pub fn has_notation(n: u8, set: u8) -> bool
     ensures { λ r. ⌜ r ≡ has-bit n set ⌝ }
 {
     if n < 1 {
         return false;
     }
-    if 4 < n {
+    if 8 < n {
         return false;
     }
     (set >> (n - 1)) % 2 == 1

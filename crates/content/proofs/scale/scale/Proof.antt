@@ -53,10 +53,9 @@ scale-spec =
     let more = bound-more (at .loop .i) (at .loop .inv .1 .0) (added []) in
     (omega arith, (more, λ s p. one-total s _ _ (at .loop .i) (symbol .result) (symbol .ensures s) _ (search (toZ-ofZ, needs)) (at .loop .inv .1 .1 s p) (added s))))
     (λ c.
-    λ s p.
     let after = c .before .before in
     let start = after .before in
     let k = start .args .k in
     let starts = tens-are (after .in-sixtieths .result) (after .in-sixtieths .ensures .1) k (after .in-sixtieths .ensures .0) in
     let e : c .before .loop .i ≡ start .args .count = omega arith in
-    rw (← e) (scale-is k _ _ _ refl starts (c .before .loop .inv .1 .1 s p))))
+    (c .before .loop .inv .1 .1 [] [] .room, λ s p. rw (← e) (scale-is k _ _ _ refl starts (c .before .loop .inv .1 .1 s p)))))

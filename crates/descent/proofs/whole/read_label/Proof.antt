@@ -14,6 +14,7 @@ read-label-spec =
     (λ c. search (label₂, arith))
     (λ c κs. search needs)
     (λ c κs. search needs)
+    (λ c κs. search needs)
     (λ c. search (label₃, arith))
     (λ c κs. search needs)
     (λ c κs. search (ready-first, arith))

@@ -41,4 +41,4 @@ put-record-spec =
     (head .result) (terms-fields (terms-in s (lent (x .places .now) (x .exponents .now)) (x .names .now) (getD (x .places .now) 64 0))) (x .bases .now) (x .primes .now) (getD (x .places .now) 64 0) (x .b .now) (put₁ .last .0) (put₂ .last .0) (put₃ .last .0) (put₄ .last .0) (put₅ .last .0)
     (ap length (head .ensures)) (start .pre .1 .dimensions) (start .pre .1 .scale) room
     (put₁ .ensures) (put₂ .ensures s) (put₃ .ensures) (put₄ .ensures) (put₅ .ensures)
-    ∙ fields-are s (lent (x .places .now) (x .exponents .now)) (x .names .now) (x .bases .now) (x .primes .now) (x .a) (head .ensures)))
+    ∙ fields-are s (lent (x .places .now) (x .exponents .now)) (x .names .now) (x .bases .now) (x .primes .now) (x .a) (start .pre .1 .scale) (head .ensures)))

@@ -1,4 +1,4 @@
--- `symbols::spelling::has_notation` meets its contract: a number that is no notation has no bit.
+-- `symbols::spelling::has_notation` meets its contract: a number that is not from 1 to 8 has no bit.
 use borrow.Author.Tests.{le-leb, lt-leb}
 use borrow.Author.Needs.{needs}
 use Rattle.symbols.proofs.spelling.has_notation.Statement.{statement}
@@ -14,7 +14,7 @@ shr-result : tie.Need-shr-result
 shr-result c = search needs
 
 returns-3 : tie.Need-returns-3
-returns-3 c = rw (le-leb 1 _ (c .before .if1 .left), le-leb _ 4 (c .if2 .left))
+returns-3 c = rw (le-leb 1 _ (c .before .if1 .left), le-leb _ 8 (c .if2 .left))
 
 pub has-notation-spec : {M : Type 1} → statement M
 has-notation-spec = tie.close (tie.spec returns returns-2 shr-result returns-3)

@@ -2,11 +2,13 @@
 use Rattle.label.proofs.SamplesHold.{samples-hold}
 use Rattle.label.proofs.Cuts.{at-most-one}
 use Rattle.label.proofs.Derivations.{derived-parsed, parsed-derived, refused-underived, underived-refused, same-derivation}
-use Rattle.label.proofs.Readings.{number-refused, refused-reading, number-accepted, accepted-gives, same-split}
+use Rattle.label.proofs.Readings.{number-refused, number-accepted, accepted-gives, same-split}
+use Rattle.label.proofs.Meanings.{refused-empty, of-its-terms, known-every, lawful-every, recommended-every, dimensions-sum, scale-sum}
+use Rattle.label.proofs.AsWritten.{exponents-written}
 use Rattle.label.specs.Samples.{SamplesHold}
 use Rattle.claims.proofs.Lowest.{lowest}
 use Rattle.claims.proofs.Sixtieths.{whole-divides, divides-whole}
-use Rattle.claims.specs.Claims.{ParseIsTheGrammar, ParseRefusesTheRest, Unambiguous, RefusalsAreTheConditions, RefusalsAreEmpty, ZeroIsAcceptance, AcceptedContent, AtMostOneKnownRest, SixtiethsAreTheBound, ShownInLowestTerms, GrammarsAgree, NotationsAgree}
+use Rattle.claims.specs.Claims.{ParseIsTheGrammar, ParseRefusesTheRest, Unambiguous, RefusalsAreTheConditions, RefusalsAreEmpty, ZeroIsAcceptance, AcceptedContent, ExponentsAsWritten, AnswersComeFromTheTerms, KnownVerdict, LawfulVerdict, RecommendedVerdict, DimensionsAreSums, ScaleIsASum, AtMostOneKnownRest, SixtiethsAreTheBound, ShownInLowestTerms, GrammarsAgree, NotationsAgree}
 
 pub parse-is-the-grammar : ParseIsTheGrammar
 parse-is-the-grammar n s f ps = ((λ h. parsed-derived n s f ps h), (λ d. derived-parsed d))
@@ -21,13 +23,34 @@ pub refusals-are-the-conditions : RefusalsAreTheConditions
 refusals-are-the-conditions n s i l = number-refused n s i l
 
 pub refusals-are-empty : RefusalsAreEmpty
-refusals-are-empty n s i d = refused-reading d
+refusals-are-empty n s i d = refused-empty d
 
 pub zero-is-acceptance : ZeroIsAcceptance
 zero-is-acceptance n s = number-accepted n s
 
 pub accepted-content : AcceptedContent
 accepted-content n s x a = accepted-gives a
+
+pub exponents-as-written : ExponentsAsWritten
+exponents-as-written n s x a = exponents-written n s x a
+
+pub answers-come-from-the-terms : AnswersComeFromTheTerms
+answers-come-from-the-terms n s q = of-its-terms n s q
+
+pub known-verdict : KnownVerdict
+known-verdict n s q = known-every n s q
+
+pub lawful-verdict : LawfulVerdict
+lawful-verdict n s q = lawful-every n s q
+
+pub recommended-verdict : RecommendedVerdict
+recommended-verdict n s q = recommended-every n s q
+
+pub dimensions-are-sums : DimensionsAreSums
+dimensions-are-sums n s q = dimensions-sum n s q
+
+pub scale-is-a-sum : ScaleIsASum
+scale-is-a-sum n s q p h = scale-sum n s q p h
 
 pub at-most-one-known-rest : AtMostOneKnownRest
 at-most-one-known-rest n e l = at-most-one n e l

@@ -1,21 +1,23 @@
 -- The page of claims. Each is stated here, in the words of the crate label's specs/, and proved in proofs/Proved.antt.
-use Prim.Native.Nat.{ℕ, _≤_, _*_}
+use Prim.Native.Nat.{ℕ, _≤_, _<_, _*_}
 use mathlib.Core.Path.{_≡_}
 use mathlib.Core.Bool.{true}
-use mathlib.Core.List.{List}
+use mathlib.Core.List.{List, [], _∷_}
+use mathlib.Core.Option.{Option, some}
 use mathlib.Core.Logic.{_↔_}
-use lib.IntN.{natAbs}
+use lib.IntN.{ℤ, pos, _+ℤ_, _*ℤ_, natAbs}
 use lib.ListN.{length}
 use Rattle.label.specs.declared.Exponent.{Exponent}
 use Rattle.label.specs.Notations.{notation}
-use Rattle.label.specs.Symbols.{known-cuts}
+use Rattle.label.specs.Symbols.{known, known-cuts}
 use Rattle.label.specs.Lexical.{Factor, Part}
 use Rattle.label.specs.Grammar.{Derives}
 use Rattle.label.specs.Parse.{refused, parsed, parse}
-use Rattle.label.specs.Limits.{Ratio, parts-of-one, in-sixtieths, lowest-terms}
+use Rattle.label.specs.Limits.{Ratio, in-sixtieths, lowest-terms}
 use Rattle.label.specs.Split.{Split, Refused, Accepts}
-use Rattle.label.specs.Reading.{refusal, reading}
+use Rattle.label.specs.Reading.{Term, reading-of, reading}
 use Rattle.label.specs.Agreement.{Gives}
+use Rattle.label.specs.Meaning.{_∈_, Prefixable, Named, unrecommended, Sum, BaseIn, dimension, PrimeIn, prime-in-ten, scale-exponent, Empty, AsWritten}
 
 -- DEMAND 2, READING
 
@@ -35,9 +37,9 @@ Unambiguous = (n : ℕ) (s : List ℕ) (f g : Factor) (ps qs : List Part) → De
 abbrev pub RefusalsAreTheConditions : Type 0
 RefusalsAreTheConditions = (n : ℕ) (s : List ℕ) (i : ℕ) → 1 ≤ i → (reading n s .number ≡ i) ↔ Refused i n s
 
--- A refused reading is empty.
+-- "A refused reading has no terms, k = 0, no dimensions, scale 1 and all verdicts no."
 abbrev pub RefusalsAreEmpty : Type 0
-RefusalsAreEmpty = (n : ℕ) (s : List ℕ) (i : ℕ) → Refused i n s → reading n s ≡ refusal i
+RefusalsAreEmpty = (n : ℕ) (s : List ℕ) (i : ℕ) → Refused i n s → Empty (reading n s)
 
 -- 0 is answered exactly when the notation accepts the text.
 abbrev pub ZeroIsAcceptance : Type 0
@@ -46,6 +48,52 @@ ZeroIsAcceptance = (n : ℕ) (s : List ℕ) → (reading n s .number ≡ 0) ↔ 
 -- Then the reading has exactly the split's content, with the notation's own symbols, and each term stands where its spelling does.
 abbrev pub AcceptedContent : Type 0
 AcceptedContent = (n : ℕ) (s : List ℕ) (x : Split) → Accepts n s x → Gives n s x (reading n s)
+
+-- An accepted unit's exponent, in sixtieths, is the power that is written there, turned over by slashes or not.
+abbrev pub ExponentsAsWritten : Type 0
+ExponentsAsWritten = (n : ℕ) (s : List ℕ) (x : Split) (a : Accepts n s x) → AsWritten (a .parts) (reading n s .terms)
+
+-- Verdicts, dimensions and scale of an accepted label come from its notation, its k and its terms.
+abbrev pub AnswersComeFromTheTerms : Type 0
+AnswersComeFromTheTerms = (n : ℕ) (s : List ℕ) → reading n s .number ≡ 0 → reading n s ≡ reading-of n (reading n s .k) (reading n s .terms)
+
+-- "Known: every unit is."
+abbrev pub KnownVerdict : Type 0
+KnownVerdict =
+    (n : ℕ) (s : List ℕ)
+    → reading n s .number ≡ 0
+    → (reading n s .known ≡ true) ↔ ((t : Term) → t ∈ reading n s .terms → (p : Option ℕ) × (u : ℕ) × (t .symbol ≡ known p u))
+
+-- "Lawful: every prefixed known unit is among .., and arcsec in CDS and VOUnits only; unknown units are lawful."
+abbrev pub LawfulVerdict : Type 0
+LawfulVerdict =
+    (n : ℕ) (s : List ℕ)
+    → reading n s .number ≡ 0
+    → (reading n s .lawful ≡ true) ↔ ((t : Term) (p u : ℕ) → t ∈ reading n s .terms → t .symbol ≡ known (some p) u → Prefixable n u)
+
+-- "Recommended: known, and no term's unit is angstrom (by any of its names), erg, G or barn."
+abbrev pub RecommendedVerdict : Type 0
+RecommendedVerdict =
+    (n : ℕ) (s : List ℕ)
+    → reading n s .number ≡ 0
+    → (reading n s .recommended ≡ true)
+    ↔ ((reading n s .known ≡ true) × ((t : Term) (p : Option ℕ) (u : ℕ) → t ∈ reading n s .terms → t .symbol ≡ known p u → Named u unrecommended → ⊥))
+
+-- "A label's dimensions are its bases' exponents summed over the terms" There are 32 bases: 11 are named, and 21 units are bases of their own.
+abbrev pub DimensionsAreSums : Type 0
+DimensionsAreSums =
+    (n : ℕ) (s : List ℕ)
+    → reading n s .number ≡ 0
+    → (length (reading n s .dimensions) ≡ 32) × ((b : ℕ) → b < 32 → Sum (BaseIn b) (reading n s .terms) (dimension b (reading n s)))
+
+-- "its scale, from k, prefixes and sizes, is a product of powers of 2, 3, 5 and 487": of each, 60 times its exponent in ten to the k, and the sum over the terms
+abbrev pub ScaleIsASum : Type 0
+ScaleIsASum =
+    (n : ℕ) (s : List ℕ)
+    → reading n s .number ≡ 0
+    → (p : ℕ)
+    → p ∈ 2 ∷ 3 ∷ 5 ∷ 487 ∷ []
+    → (z : ℤ) × Sum (PrimeIn p) (reading n s .terms) z × (scale-exponent p (reading n s) ≡ pos 60 *ℤ prime-in-ten p (reading n s .k .0) +ℤ z)
 
 -- "At most one split has a known rest."
 abbrev pub AtMostOneKnownRest : Type 0
@@ -62,13 +110,13 @@ abbrev pub SixtiethsAreTheBound : Type 0
 SixtiethsAreTheBound =
     (r : Ratio) (p q : ℕ)
     → LowestTerms (r .numerator) (r .denominator) p q
-    → (in-sixtieths r ≡ true) ↔ ((t : ℕ) × (t * q ≡ parts-of-one))
+    → (in-sixtieths r ≡ true) ↔ ((t : ℕ) × (t * q ≡ 60))
 
 -- An exponent is shown in lowest terms.
 abbrev pub ShownInLowestTerms : Type 0
 ShownInLowestTerms =
     (e : Exponent)
-    → LowestTerms (natAbs (e .0)) parts-of-one (natAbs (lowest-terms e .numerator)) (lowest-terms e .denominator)
+    → LowestTerms (natAbs (e .0)) 60 (natAbs (lowest-terms e .numerator)) (lowest-terms e .denominator)
 
 -- DEMAND 3
 

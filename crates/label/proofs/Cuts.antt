@@ -105,7 +105,7 @@ cut-passes n l i (p ∷ ps) t =
     go (some []) e w ih = ih
     go (some (c ∷ r)) e w ih = rest c r (unit-named n (c ∷ r)) refl (follows-is (p .name) l (c ∷ r) e) w ih
 
-all-members : (f : ℕ → Bool) (n : ℕ) (ms : Notations) → T (all f ms) → member n ms ≡ true → T (f n)
+pub all-members : (f : ℕ → Bool) (n : ℕ) (ms : Notations) → T (all f ms) → member n ms ≡ true → T (f n)
 unfolding all member
 all-members f n [] t e = absurd (false-true e)
 all-members f n (m ∷ ms) t e = go (eqb n m) refl (λ e. all-members f n ms (both (f m) (all f ms) t .1) e) e

@@ -1,6 +1,8 @@
 pub mod Computing
 pub mod SamplesHold
 pub mod Cuts
+pub mod Listing
+pub mod Tables
 pub mod Sizes
 pub mod Basics
 pub mod General
@@ -18,3 +20,5 @@ pub mod Derivations
 pub mod Refusals
 pub mod Places
 pub mod Readings
+pub mod Meanings
+pub mod AsWritten

@@ -67,7 +67,7 @@ refusal-number : (i : ℕ) → refusal i .number ≡ i
 unfolding refusal
 refusal-number i = refl
 
-accepted-reading : {n : ℕ} {s : List ℕ} {v : Valued} → Accepted n s v → reading n s ≡ reading-of n (v .k) (map (term n (length s)) (v .units))
+pub accepted-reading : {n : ℕ} {s : List ℕ} {v : Valued} → Accepted n s v → reading n s ≡ reading-of n (v .k) (map (term n (length s)) (v .units))
 unfolding reading answered
 accepted-reading a = rw (a .checks)
 
@@ -91,16 +91,27 @@ number-refused n s i l = (back (answer-of n s), (λ d. refused-number d))
 -- ACCEPTANCE
 
 -- an accepted label's values are those of the acceptance
+same-values : {n : ℕ} {s : List ℕ} {x : Split} {v : Valued} (w : Accepts n s x) → Accepted n s v → w .values ≡ v
+same-values {v = v} w a =
+    let q = same-derivation (w .derived) (a .derived) in
+    let e : some (w .values) ≡ some v = sym (w .within) ∙ ap (λ (f : Factor). valued f (w .parts)) (q .0) ∙ ap (λ (ps : List Part). valued (a .factor) ps) (q .1) ∙ a .within in
+    cc
+
 accepts-values : {n : ℕ} {s : List ℕ} {x : Split} → Accepts n s x → (v : Valued) × Accepted n s v × (x ≡ split-of v)
 accepts-values {n} {s} {x} w = go (answer-of n s)
   where
     go : Answered n s → (v : Valued) × Accepted n s v × (x ≡ split-of v)
     go (Answered.refusing i e d) = absurd (w .none-applies i (d .holds))
+    go (Answered.accepting v a) = (v, a, w .is ∙ ap split-of (same-values w a))
+
+pub accepts-terms : {n : ℕ} {s : List ℕ} {x : Split} (w : Accepts n s x) → reading n s .terms ≡ map (term n (length s)) (w .values .units)
+unfolding reading-of
+accepts-terms {n} {s} w = go (answer-of n s)
+  where
+    go : Answered n s → reading n s .terms ≡ map (term n (length s)) (w .values .units)
+    go (Answered.refusing i e d) = absurd (w .none-applies i (d .holds))
     go (Answered.accepting v a) =
-        let q = same-derivation (w .derived) (a .derived) in
-        let e : some (w .values) ≡ some v = sym (w .within) ∙ ap (λ (f : Factor). valued f (w .parts)) (q .0) ∙ ap (λ (ps : List Part). valued (a .factor) ps) (q .1) ∙ a .within in
-        let z : w .values ≡ v = cc in
-        (v, a, w .is ∙ ap split-of z)
+        ap (λ (r : Reading). r .terms) (accepted-reading a) ∙ ap (λ (y : Valued). map (term n (length s)) (y .units)) (sym (same-values w a))
 
 accepted-accepts : {n : ℕ} {s : List ℕ} {v : Valued} → Accepted n s v → Accepts n s (split-of v)
 accepted-accepts {v = v} a = record { none-applies = a .clear; factor = a .factor; parts = a .parts; derived = a .derived; values = v; within = a .within; is = refl }

@@ -1,5 +1,5 @@
--- The table of units by computed tests: sizes hold no primes but 2, 3, 5 and 487, each base is one unit, and a name is one unit's.
-use Prim.Native.Nat.{ℕ, suc, _+_, _*_, _^_}
+-- The table of units by computed tests: each base is one unit, and a name is one unit's.
+use Prim.Native.Nat.{ℕ, suc, _+_}
 use mathlib.Core.Bool.{Bool, true, false, _&&_, _||_, not}
 use mathlib.Core.List.{List, [], _∷_}
 use mathlib.Core.Option.{Option, none, some}
@@ -9,24 +9,10 @@ use Rattle.label.proofs.Computing.{answers-compute}
 use Rattle.label.specs.Bytes.{all}
 use Rattle.label.specs.Choice.{pick}
 use Rattle.label.specs.Notations.{everywhere, member}
-use Rattle.label.specs.Units.{BasePower, Name, KnownUnit, units, multiplicity}
+use Rattle.label.specs.Units.{BasePower, Name, KnownUnit, units}
 use Rattle.label.specs.Symbols.{unit-named}
-use Rattle.label.specs.Reading.{all-bases, primes}
+use Rattle.label.specs.Reading.{all-bases}
 use Rattle.label.specs.Conversion.{same-whole}
-
--- PRIMES: "a product of powers of 2, 3, 5 and 487"
-
-powers-in : ℕ → List ℕ → ℕ
-powers-in n [] = 1
-powers-in n (p ∷ ps) = p ^ multiplicity 64 p n * powers-in n ps
-
-pub factored : List KnownUnit → Bool
-factored [] = true
-factored (u ∷ us) = eqb (powers-in (u .size .count) primes) (u .size .count) && factored us
-
-pub sizes-factored : T (factored units)
-unfolding factored powers-in answers-compute
-sizes-factored = tt
 
 -- BASES: each is the size of one unit
 

@@ -17,5 +17,6 @@ pub mod Split
 pub mod Reading
 pub mod Conversion
 pub mod Agreement
+pub mod Meaning
 pub mod Samples
 pub mod Ranges

@@ -5,10 +5,11 @@ use Rattle.label.proofs.Derivations.{derived-parsed, parsed-derived, refused-un
 use Rattle.label.proofs.Readings.{number-refused, number-accepted, accepted-gives, same-split}
 use Rattle.label.proofs.Meanings.{refused-empty, of-its-terms, known-every, lawful-every, recommended-every, dimensions-sum, scale-sum}
 use Rattle.label.proofs.AsWritten.{exponents-written}
+use Rattle.label.proofs.Bounds.{bounds-kept}
 use Rattle.label.specs.Samples.{SamplesHold}
 use Rattle.claims.proofs.Lowest.{lowest}
 use Rattle.claims.proofs.Sixtieths.{whole-divides, divides-whole}
-use Rattle.claims.specs.Claims.{ParseIsTheGrammar, ParseRefusesTheRest, Unambiguous, RefusalsAreTheConditions, RefusalsAreEmpty, ZeroIsAcceptance, AcceptedContent, ExponentsAsWritten, AnswersComeFromTheTerms, KnownVerdict, LawfulVerdict, RecommendedVerdict, DimensionsAreSums, ScaleIsASum, AtMostOneKnownRest, SixtiethsAreTheBound, ShownInLowestTerms, GrammarsAgree, NotationsAgree}
+use Rattle.claims.specs.Claims.{ParseIsTheGrammar, ParseRefusesTheRest, Unambiguous, RefusalsAreTheConditions, BoundsAreKept, RefusalsAreEmpty, ZeroIsAcceptance, AcceptedContent, ExponentsAsWritten, AnswersComeFromTheTerms, KnownVerdict, LawfulVerdict, RecommendedVerdict, DimensionsAreSums, ScaleIsASum, AtMostOneKnownRest, SixtiethsAreTheBound, ShownInLowestTerms, GrammarsAgree, NotationsAgree}
 
 pub parse-is-the-grammar : ParseIsTheGrammar
 parse-is-the-grammar n s f ps = ((λ h. parsed-derived n s f ps h), (λ d. derived-parsed d))
@@ -21,6 +22,9 @@ unambiguous n s f g ps qs d e = same-derivation d e
 
 pub refusals-are-the-conditions : RefusalsAreTheConditions
 refusals-are-the-conditions n s i l = number-refused n s i l
+
+pub bounds-are-kept : BoundsAreKept
+bounds-are-kept f ps = bounds-kept f ps
 
 pub refusals-are-empty : RefusalsAreEmpty
 refusals-are-empty n s i d = refused-empty d

@@ -14,10 +14,10 @@ use Rattle.label.specs.Lexical.{Factor, Part}
 use Rattle.label.specs.Grammar.{Derives}
 use Rattle.label.specs.Parse.{refused, parsed, parse}
 use Rattle.label.specs.Limits.{Ratio, in-sixtieths, lowest-terms}
-use Rattle.label.specs.Split.{Split, Refused, Accepts}
+use Rattle.label.specs.Split.{Split, Valued, valued, Refused, Accepts}
 use Rattle.label.specs.Reading.{Term, reading-of, reading}
 use Rattle.label.specs.Agreement.{Gives}
-use Rattle.label.specs.Meaning.{_∈_, Prefixable, Named, unrecommended, Sum, BaseIn, dimension, PrimeIn, prime-in-ten, scale-exponent, Empty, AsWritten}
+use Rattle.label.specs.Meaning.{_∈_, Prefixable, Named, unrecommended, Sum, BaseIn, dimension, PrimeIn, prime-in-ten, scale-exponent, Empty, AsWritten, PowerKeeps, FactorKeeps}
 
 -- DEMAND 2, READING
 
@@ -36,6 +36,10 @@ Unambiguous = (n : ℕ) (s : List ℕ) (f g : Factor) (ps qs : List Part) → De
 -- A refusal's number is given exactly when its condition holds and no earlier one does.
 abbrev pub RefusalsAreTheConditions : Type 0
 RefusalsAreTheConditions = (n : ℕ) (s : List ℕ) (i : ℕ) → 1 ≤ i → (reading n s .number ≡ i) ↔ Refused i n s
+
+-- "a digit run, exponent or factor breaks its bound": a label has values exactly if none does.
+abbrev pub BoundsAreKept : Type 0
+BoundsAreKept = (f : Factor) (ps : List Part) → ((v : Valued) × (valued f ps ≡ some v)) ↔ (FactorKeeps f × ((p : Part) → p ∈ ps → PowerKeeps (p .power)))
 
 -- "A refused reading has no terms, k = 0, no dimensions, scale 1 and all verdicts no."
 abbrev pub RefusalsAreEmpty : Type 0

@@ -1,21 +1,21 @@
 -- An accepted unit's sixtieths are the ratio that its power writes.
-use Prim.Native.Nat.{ℕ, zero, suc, _*_, _/_, _%_}
+use Prim.Native.Nat.{ℕ, zero, suc, _*_, _%_}
 use native.Mathlib.Omega.{arith}
 use native.Mathlib.Nat.{div-add-mod', zero-mul, mul-zero}
 use mathlib.Core.Path.{_≡_, refl, sym, ap, _∙_}
-use mathlib.Core.Bool.{Bool, true, false, _&&_}
-use mathlib.Core.List.{List, [], _∷_, map}
-use mathlib.Core.Option.{Option, none, some}
-use lib.Dec.{leb, eqb}
-use lib.IntN.{ℤ, pos, negℤ, _*ℤ_}
+use mathlib.Core.Bool.{Bool, true, false}
+use mathlib.Core.List.{List, map}
+use mathlib.Core.Option.{none, some}
+use lib.Dec.{leb}
+use lib.IntN.{pos, _*ℤ_}
 use lib.ListN.{length}
 use borrow.Author.Tests.{eqb-true}
 use Rattle.label.specs.declared.Exponent.{Exponent}
 use Rattle.label.specs.Choice.{pick}
-use Rattle.label.specs.Lexical.{Part, Written}
+use Rattle.label.specs.Lexical.{Part}
 use Rattle.label.specs.Limits.{parts-of-one, largest-exponent, signed, exclusive-or, Ratio, ratio, in-sixtieths, sixtieths, bounded, exponent-in, exponent-of}
 use Rattle.label.specs.Split.{Placed, Split, Accepts}
-use Rattle.label.specs.Reading.{Term, term, reading}
+use Rattle.label.specs.Reading.{term, reading}
 use Rattle.label.specs.Meaning.{AsWritten}
 use Rattle.label.proofs.Basics.{none-some, and-left, and-right}
 use Rattle.label.proofs.Refusals.{Values, valued-values}
@@ -31,10 +31,8 @@ times-signed true c zero = rw (mul-zero c)
 times-signed true c (suc n) = refl
 times-signed false c n = refl
 
-whole-sixtieths : (q : Ratio) → bounded q ≡ true → sixtieths q * q .denominator ≡ 60 * q .numerator
-whole-sixtieths q e =
-    let w = and-left (in-sixtieths q) (leb (sixtieths q) (parts-of-one * largest-exponent)) (and-right (q .short) _ e) in
-    omega (arith, div-add-mod' (60 * q .numerator) (q .denominator), eqb-true (60 * q .numerator % q .denominator) 0 w)
+pub whole-sixtieths : (q : Ratio) → in-sixtieths q ≡ true → sixtieths q * q .denominator ≡ 60 * q .numerator
+whole-sixtieths q e = omega (arith, div-add-mod' (60 * q .numerator) (q .denominator), eqb-true (60 * q .numerator % q .denominator) 0 e)
 
 -- e sixtieths are the ratio q under its sign, turned or not
 abbrev SixtiethsOf : Exponent → Bool → Ratio → Type 0
@@ -46,10 +44,11 @@ exponent-written turned q e h = go (bounded q) refl h
   where
     go : (b : Bool) → bounded q ≡ b → pick b (some (record { 0 = signed (exclusive-or turned (q .negative)) (sixtieths q) })) none ≡ some e → SixtiethsOf e turned q
     go true p h =
+        let whole = and-left (in-sixtieths q) (leb (sixtieths q) (parts-of-one * largest-exponent)) (and-right (q .short) _ p) in
         let z : record { 0 = signed (exclusive-or turned (q .negative)) (sixtieths q) } ≡ e = cc in
         rw (← z) (
         signed-times (exclusive-or turned (q .negative)) (sixtieths q) (q .denominator)
-        ∙ ap (signed (exclusive-or turned (q .negative))) (whole-sixtieths q p)
+        ∙ ap (signed (exclusive-or turned (q .negative))) (whole-sixtieths q whole)
         ∙ sym (times-signed (exclusive-or turned (q .negative)) 60 (q .numerator)))
     go false p h = absurd (none-some h)
 

@@ -22,3 +22,4 @@ pub mod Places
 pub mod Readings
 pub mod Meanings
 pub mod AsWritten
+pub mod Bounds

@@ -1,30 +1,27 @@
 -- An accepted reading's verdicts, dimensions and scale are what document 01 says of its terms, a refused reading is empty, and exponents are the powers as written.
-use Prim.Native.Nat.{ℕ, zero, suc, _*_, _/_, _%_, _<_}
+use Prim.Native.Nat.{ℕ, zero, suc, _<_}
 use native.Mathlib.Omega.{arith}
-use native.Mathlib.Nat.{div-add-mod'}
 use mathlib.Core.Path.{_≡_, refl, sym, ap, _∙_}
-use mathlib.Core.Bool.{Bool, true, false, _&&_, _||_}
+use mathlib.Core.Bool.{Bool, true, false}
 use mathlib.Core.List.{List, [], _∷_, map}
 use mathlib.Core.Option.{Option, none, some}
-use mathlib.Core.Logic.{_↔_, _⊎_, inl, inr}
-use lib.Dec.{eqb}
+use mathlib.Core.Logic.{_↔_, inl, inr}
 use lib.IntN.{ℤ, pos, _+ℤ_, _*ℤ_, *ℤ-comm}
 use lib.ListN.{getD, length, length-map}
 use Rattle.label.specs.declared.Exponent.{Exponent}
 use Rattle.label.specs.declared.Tens.{Tens}
-use Rattle.label.specs.Choice.{pick}
 use Rattle.label.specs.Notations.{notation}
 use Rattle.label.specs.Prefixes.{power-of}
 use Rattle.label.specs.Units.{unit-at, multiplicity, in-tens}
 use Rattle.label.specs.Symbols.{Symbol, known, unknown}
 use Rattle.label.specs.Split.{one, Refused}
-use Rattle.label.specs.Reading.{Term, every, is-known, is-lawful, is-recommended, base-in, prime-in, total, nothing, all-bases, primes, dimensions-of, scale-of, Reading, refusal, reading-of, reading}
+use Rattle.label.specs.Reading.{Term, every, is-known, is-lawful, is-recommended, base-in, prime-in, total, nothing, all-bases, dimensions-of, scale-of, Reading, refusal, reading-of, reading}
 use Rattle.label.specs.Meaning.{_∈_, Named, Prefixable, unrecommended, Sum, BaseIn, dimension, prime-in-ten, PrimeIn, scale-exponent, Empty}
 use Rattle.label.proofs.Basics.{false-true, and-left, and-right}
 use Rattle.label.proofs.Listing.{up-to-length, up-to-map}
 use Rattle.label.proofs.Tables.{lawful-prefixable, prefixable-lawful, recommended-unnamed, unnamed-recommended, row-power, row-product}
 use Rattle.label.proofs.Refusals.{bounds}
-use Rattle.label.proofs.Readings.{Accepted, Answered, answer-of, accepted-reading, refused-reading, number-refused}
+use Rattle.label.proofs.Readings.{Answered, answer-of, accepted-reading, refused-reading, number-refused}
 
 -- EVERY TERM
 
@@ -170,24 +167,26 @@ dimensions-sum n s q =
 abbrev four-primes : List ℕ
 four-primes = 2 ∷ 3 ∷ 5 ∷ 487 ∷ []
 
+-- what holds at each of the four holds at all
+at-primes : (P : ℕ → Type 0) → P 2 → P 3 → P 5 → P 487 → (p : ℕ) → p ∈ four-primes → P p
+at-primes P a b c d p (inl e) = rw e a
+at-primes P a b c d p (inr (inl e)) = rw e b
+at-primes P a b c d p (inr (inr (inl e))) = rw e c
+at-primes P a b c d p (inr (inr (inr (inl e)))) = rw e d
+
 in-tens-is : (p : ℕ) → p ∈ four-primes → (t : Tens) → in-tens p t ≡ prime-in-ten p (t .0)
-in-tens-is p (inl e) t = rw e
-in-tens-is p (inr (inl e)) t = rw e
-in-tens-is p (inr (inr (inl e))) t = rw e
-in-tens-is p (inr (inr (inr (inl e)))) t = rw e
+in-tens-is p h t = at-primes (λ p. in-tens p t ≡ prime-in-ten p (t .0)) refl refl refl refl p h
 
 prime-has : (p : ℕ) → p ∈ four-primes → (x : Symbol) → PrimeIn p x (prime-in p x)
 unfolding prime-in
 prime-has p h (known x u) = rw (in-tens-is p h (power-of x), in-tens-is p h (unit-at u .size .tens)) (PrimeIn.with-size (λ p. multiplicity 64 p (unit-at u .size .count)) (row-product u))
 prime-has p h (unknown x l) = rw (in-tens-is p h (power-of x)) PrimeIn.prefix-only
 
-scale-at : (p : ℕ) → p ∈ four-primes → (r : Reading) → r .scale ≡ scale-of (r .k) (r .terms)
-    → scale-exponent p r ≡ in-tens p (r .k) *ℤ pos 60 +ℤ total (prime-in p) (r .terms) .0
+scale-of-at : (k : Tens) (ts : List Term) (r : Reading) → r .scale ≡ scale-of k ts → (p : ℕ) → p ∈ four-primes
+    → scale-exponent p r ≡ in-tens p k *ℤ pos 60 +ℤ total (prime-in p) ts .0
 unfolding scale-of
-scale-at p (inl e) r q = rw (e, q)
-scale-at p (inr (inl e)) r q = rw (e, q)
-scale-at p (inr (inr (inl e))) r q = rw (e, q)
-scale-at p (inr (inr (inr (inl e)))) r q = rw (e, q)
+scale-of-at k ts r q p h =
+    at-primes (λ p. scale-exponent p r ≡ in-tens p k *ℤ pos 60 +ℤ total (prime-in p) ts .0) (rw q) (rw q) (rw q) (rw q) p h
 
 pub scale-sum : (n : ℕ) (s : List ℕ) → reading n s .number ≡ 0 → (p : ℕ) → p ∈ 2 ∷ 3 ∷ 5 ∷ 487 ∷ []
     → (z : ℤ) × Sum (PrimeIn p) (reading n s .terms) z × (scale-exponent p (reading n s) ≡ pos 60 *ℤ prime-in-ten p (reading n s .k .0) +ℤ z)
@@ -195,7 +194,7 @@ scale-sum n s q p h =
     let z = total (prime-in p) (reading n s .terms) .0 in (
       z,
       total-sum (prime-in p) (PrimeIn p) (prime-has p h) (reading n s .terms),
-      scale-at p h (reading n s) (fields n s q .scale)
+      scale-of-at (reading n s .k) (reading n s .terms) (reading n s) (fields n s q .scale) p h
           ∙ ap (λ (y : ℤ). y *ℤ pos 60 +ℤ z) (in-tens-is p h (reading n s .k))
           ∙ ap (λ (y : ℤ). y +ℤ z) (*ℤ-comm (prime-in-ten p (reading n s .k .0)) (pos 60)),
     )
@@ -207,13 +206,17 @@ nothing-at [] i = refl
 nothing-at (x ∷ xs) zero = refl
 nothing-at (x ∷ xs) (suc i) = nothing-at xs i
 
+refusal-scale : (i p : ℕ) → p ∈ four-primes → scale-exponent p (refusal i) ≡ pos 0
+unfolding refusal
+refusal-scale i p h = at-primes (λ p. scale-exponent p (refusal i) ≡ pos 0) refl refl refl refl p h
+
 refusal-empty : (i : ℕ) → Empty (refusal i)
 unfolding refusal
 refusal-empty i = record {
   terms = refl;
   k = refl;
   dimensions = λ b. ap (λ (e : Exponent). e .0) (nothing-at all-bases b);
-  scale = λ p. ap (λ (e : Exponent). e .0) (nothing-at primes (pick (eqb p 2) 0 (pick (eqb p 3) 1 (pick (eqb p 5) 2 3))));
+  scale = refusal-scale i;
   known = refl;
   lawful = refl;
   recommended = refl;

@@ -1,22 +1,22 @@
 -- What a reading's fields mean, said of its terms one by one: the words in which the claims about them are stated.
-use Prim.Native.Nat.{ℕ, _<_, _*_, _^_}
+use Prim.Native.Nat.{ℕ, _≤_, _*_, _^_}
 use Prim.Native.String.{String}
 use mathlib.Core.Path.{_≡_}
-use mathlib.Core.Bool.{Bool, true, false, _||_}
+use mathlib.Core.Bool.{true, false, _||_}
 use mathlib.Core.List.{List, [], _∷_, map}
-use mathlib.Core.Option.{Option, some}
+use mathlib.Core.Option.{Option}
 use mathlib.Core.Logic.{_⊎_}
 use lib.Dec.{eqb}
 use lib.IntN.{ℤ, pos, _+ℤ_, _*ℤ_}
-use lib.ListN.{getD}
+use lib.ListN.{getD, length}
 use Rattle.label.specs.Bytes.{bytes}
 use Rattle.label.specs.Choice.{pick}
 use Rattle.label.specs.Notations.{cds, vounits}
 use Rattle.label.specs.Prefixes.{power-of}
 use Rattle.label.specs.Units.{BasePower, Name, _↑_, unit-at}
 use Rattle.label.specs.Symbols.{Symbol, known, unknown}
-use Rattle.label.specs.Lexical.{Part}
-use Rattle.label.specs.Limits.{signed, exclusive-or, ratio}
+use Rattle.label.specs.Lexical.{Numeral, Written, unwritten, whole, decimal, fraction, Factor, no-factor, ten-to, zeros, Part}
+use Rattle.label.specs.Limits.{number, signed, exclusive-or, ratio, in-sixtieths}
 use Rattle.label.specs.Reading.{Term, nothing, Reading}
 
 -- x is in the list
@@ -92,7 +92,7 @@ pub record Empty (r : Reading) : Type 0 where
   pub terms : r .terms ≡ []
   pub k : r .k .0 ≡ pos 0
   pub dimensions : (b : ℕ) → dimension b r ≡ pos 0
-  pub scale : (p : ℕ) → scale-exponent p r ≡ pos 0
+  pub scale : (p : ℕ) → p ∈ 2 ∷ 3 ∷ 5 ∷ 487 ∷ [] → scale-exponent p r ≡ pos 0
   pub known : r .known ≡ false
   pub lawful : r .lawful ≡ false
   pub recommended : r .recommended ≡ false
@@ -106,3 +106,23 @@ pub data AsWritten : List Part → List Term → Type 0 where
       → t .exponent .0 *ℤ pos (ratio (x .power) .denominator) ≡ pos 60 *ℤ signed (exclusive-or (x .turned) (ratio (x .power) .negative)) (ratio (x .power) .numerator)
       → AsWritten xs ts
       → AsWritten (x ∷ xs) (t ∷ ts)
+
+-- BOUNDS
+
+abbrev pub digit-runs : Written → List (List ℕ)
+digit-runs unwritten = []
+digit-runs (whole n) = n .digits ∷ []
+digit-runs (decimal n ds) = n .digits ∷ ds ∷ []
+digit-runs (fraction n ds) = n .digits ∷ ds ∷ []
+
+-- "Each digit run: at most 4 digits. An exponent in lowest terms has a denominator that divides 60, and a size of at most 99."
+pub record PowerKeeps (w : Written) : Type 0 where
+  pub runs : (ds : List ℕ) → ds ∈ digit-runs w → length ds ≤ 4
+  pub sixtieths : in-sixtieths (ratio w) ≡ true
+  pub size : ratio w .numerator ≤ 99 * ratio w .denominator
+
+-- "at most 4 digits (not for a plain factor)", "ten to the k, k from -99 to 99"
+pub data FactorKeeps : Factor → Type 0 where
+  absent : FactorKeeps no-factor
+  integer : {n : Numeral} → length (n .digits) ≤ 4 → number (n .digits) ≤ 99 → FactorKeeps (ten-to n)
+  plain : {k : ℕ} → k ≤ 99 → FactorKeeps (zeros k)

@@ -11,7 +11,7 @@ use Rattle.label.specs.Bytes.{admitted, all}
 use Rattle.label.specs.Notations.{notation}
 use Rattle.label.specs.Lexical.{Factor, Part}
 use Rattle.label.specs.Grammar.{Derives}
-use Rattle.label.specs.Limits.{most-bytes, most-terms, most-brackets, exponent-of, k-of, deepest}
+use Rattle.label.specs.Limits.{exponent-of, k-of, deepest}
 
 -- THE SPLIT
 
@@ -69,7 +69,7 @@ Condition1 n s = notation n ≡ false
 
 -- "the text is over 255 bytes"
 abbrev pub Condition2 : ℕ → List ℕ → Type 0
-Condition2 n s = most-bytes < length s
+Condition2 n s = 255 < length s
 
 -- "a byte lies outside hexadecimal 20 to 7E"
 abbrev pub Condition3 : ℕ → List ℕ → Type 0
@@ -85,11 +85,11 @@ Condition5 n s = (f : Factor) × (ps : List Part) × Derives n s f ps × (valued
 
 -- "more than 8 brackets are open at once"
 abbrev pub Condition6 : ℕ → List ℕ → Type 0
-Condition6 n s = most-brackets < deepest s
+Condition6 n s = 8 < deepest s
 
 -- "more than 32 terms"
 abbrev pub Condition7 : ℕ → List ℕ → Type 0
-Condition7 n s = (f : Factor) × (ps : List Part) × Derives n s f ps × (most-terms < length ps)
+Condition7 n s = (f : Factor) × (ps : List Part) × Derives n s f ps × (32 < length ps)
 
 -- the condition of refusal i
 pub data Condition : ℕ → ℕ → List ℕ → Type 0 where

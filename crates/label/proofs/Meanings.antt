@@ -1,4 +1,4 @@
--- An accepted reading's verdicts, dimensions and scale are what document 01 says of its terms, a refused reading is empty, and exponents are the powers as written.
+-- An accepted reading's verdicts, dimensions and scale are what document 01 says of its terms, and a refused reading is empty.
 use Prim.Native.Nat.{ℕ, zero, suc, _<_}
 use native.Mathlib.Omega.{arith}
 use mathlib.Core.Path.{_≡_, refl, sym, ap, _∙_}

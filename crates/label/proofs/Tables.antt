@@ -29,6 +29,13 @@ row-passes f [] d t e u = e
 row-passes f (x ∷ us) d t e zero = both (f x) (all-rows f us) t .0
 row-passes f (x ∷ us) d t e (suc u) = row-passes f us d (both (f x) (all-rows f us) t .1) e u
 
+-- a row that is not in the table
+abbrev no-row : KnownUnit
+no-row = bare [] (ten-to (pos 0) [])
+
+every-row : (f : KnownUnit → Bool) → T (all-rows f units) → T (f no-row) → (u : ℕ) → T (f (unit-at u))
+every-row f t e u = row-passes f units no-row t e u
+
 alike : Bool → Bool → Bool
 alike true b = b
 alike false b = not b
@@ -110,7 +117,7 @@ all-prefixes-right : T (all prefixes-right everywhere)
 unfolding prefixes-right all-rows alike prefixable-in in-arcsec-notations shares is-in symbols-compute
 all-prefixes-right = tt
 
-no-row-prefixed : (n : ℕ) → T (alike (member n []) (prefixable-in n (bare [] (ten-to (pos 0) []))))
+no-row-prefixed : (n : ℕ) → T (alike (member n []) (prefixable-in n no-row))
 unfolding alike member prefixable-in shares
 no-row-prefixed n = tt
 
@@ -118,8 +125,7 @@ prefixed-in-is : (n : ℕ) → notation n ≡ true → (u : ℕ) → member n (u
 unfolding notation prefixes-right
 prefixed-in-is n e u =
     alike-is (member n (unit-at u .prefixed-in)) (prefixable-in n (unit-at u))
-    (row-passes (λ u. alike (member n (u .prefixed-in)) (prefixable-in n u)) units (bare [] (ten-to (pos 0) []))
-    (all-members prefixes-right n everywhere all-prefixes-right e) (no-row-prefixed n) u)
+    (every-row (λ u. alike (member n (u .prefixed-in)) (prefixable-in n u)) (all-members prefixes-right n everywhere all-prefixes-right e) (no-row-prefixed n) u)
 
 -- the test of a row says that a prefix is lawful on it
 test-prefixable : (n u : ℕ) → prefixable-in n (unit-at u) ≡ true → Prefixable n u
@@ -159,7 +165,7 @@ all-recommended-right : T (all-rows recommended-right units)
 unfolding recommended-right all-rows alike shares is-in symbols-compute
 all-recommended-right = tt
 
-no-row-recommended : T (recommended-right (bare [] (ten-to (pos 0) [])))
+no-row-recommended : T (recommended-right no-row)
 unfolding recommended-right alike shares
 no-row-recommended = tt
 
@@ -167,7 +173,7 @@ recommended-is : (u : ℕ) → unit-at u .recommended ≡ not (shares (names-of 
 unfolding recommended-right
 recommended-is u =
     alike-is (unit-at u .recommended) (not (shares (names-of (unit-at u)) (map bytes unrecommended)))
-    (row-passes recommended-right units (bare [] (ten-to (pos 0) [])) all-recommended-right no-row-recommended u)
+    (every-row recommended-right all-recommended-right no-row-recommended u)
 
 pub recommended-unnamed : (u : ℕ) → unit-at u .recommended ≡ true → Named u unrecommended → ⊥
 recommended-unnamed u e h =
@@ -202,7 +208,7 @@ unfolding bases-differ
 no-row-differs = tt
 
 row-bases-differ : (u : ℕ) → T (bases-differ (unit-at u .size .bases))
-row-bases-differ u = row-passes (λ u. bases-differ (u .size .bases)) units (bare [] (ten-to (pos 0) [])) all-bases-differ no-row-differs u
+row-bases-differ u = every-row (λ u. bases-differ (u .size .bases)) all-bases-differ no-row-differs u
 
 unlists-power : (b : ℕ) (xs : List BasePower) → T (unlists b xs) → base-power b xs ≡ pos 0
 unfolding unlists base-power
@@ -249,10 +255,10 @@ sizes-factored : T (all-rows factored units)
 unfolding all-rows factored powers symbols-compute
 sizes-factored = tt
 
-no-row-factored : T (factored (bare [] (ten-to (pos 0) [])))
+no-row-factored : T (factored no-row)
 unfolding factored powers symbols-compute
 no-row-factored = tt
 
 pub row-product : (u : ℕ) → Product (λ p. multiplicity 64 p (unit-at u .size .count)) (unit-at u .size .count)
 unfolding factored powers
-row-product u = eqb-true _ _ (T→true (factored (unit-at u)) (row-passes factored units (bare [] (ten-to (pos 0) [])) sizes-factored no-row-factored u))
+row-product u = eqb-true _ _ (T→true (factored (unit-at u)) (every-row factored sizes-factored no-row-factored u))

@@ -71,7 +71,7 @@ dimension b r = getD (r .dimensions) b nothing .0
 abbrev pub prime-in-ten : ℕ → ℤ → ℤ
 prime-in-ten p z = pick (eqb p 2 || eqb p 5) z (pos 0)
 
--- n is the product of 2, 3, 5 and 487, each to its power m
+-- n is the product of 2, 3, 5 and 487, each to the power that m gives it
 abbrev pub Product : (ℕ → ℕ) → ℕ → Type 0
 Product m n = n ≡ 2 ^ m 2 * 3 ^ m 3 * 5 ^ m 5 * 487 ^ m 487
 

@@ -83,7 +83,7 @@ pub data PrimeIn (p : ℕ) : Symbol → ℤ → Type 0 where
 
 -- the exponent of the prime p (2, 3, 5 or 487) in a reading's scale
 abbrev pub scale-exponent : ℕ → Reading → ℤ
-scale-exponent p r = getD (r .scale) (pick (eqb p 2) 0 (pick (eqb p 3) 1 (pick (eqb p 5) 2 3))) nothing .0
+scale-exponent p r = pick (eqb p 2) (r .scale .of-2) (pick (eqb p 3) (r .scale .of-3) (pick (eqb p 5) (r .scale .of-5) (r .scale .of-487))) .0
 
 -- REFUSED READINGS
 

@@ -16,12 +16,12 @@ use Rattle.label.specs.Symbols.{Symbol as Meant, symbol, known, unknown}
 use Rattle.label.specs.Ranges.{between}
 use Rattle.scan.proofs.Slices.{length-between}
 use Rattle.symbols.specs.declared.Symbol.{Symbol}
-use Rattle.symbols.specs.Views.{place, symbol-in, Bounded}
+use Rattle.symbols.specs.Views.{place, symbol-in, Bounded, LettersAt}
 use Rattle.descent.specs.Terms.{Lent, count, term-at, terms, placed-in, InLabel, AllIn}
 use Rattle.descent.specs.Terms as held
 use Rattle.descent.proofs.TermSteps.{terms-next}
 use Rattle.content.specs.Views.{by-code, symbol-at, term-in, terms-in}
-use Rattle.content.specs.Named.{unit-code, Short, NotedAt, SameAt, Noted, Nameable, LettersIn, AllNamed}
+use Rattle.content.specs.Named.{unit-code, Short, NotedAt, SameAt, Noted, Nameable, LettersIn, NoLetters, AllNamed}
 
 -- ONE SYMBOL
 
@@ -81,6 +81,10 @@ noted-symbol y w s = rw (w .prefix, w .unit, w .start, w .end) (go (y .known))
 unknown-told : (b : Bool) (u : ℕ) → pick b (suc u) 0 ≡ 0 → b ≡ false
 unknown-told true u e = absurd (omega arith)
 unknown-told false u e = refl
+
+known-told : (b : Bool) (u : ℕ) → 0 < pick b (suc u) 0 → b ≡ true
+known-told true u h = refl
+known-told false u h = absurd (omega arith)
 
 -- the symbol at i, by its code
 pub symbol-unknown : (s x : List ℕ) (i : ℕ) → getD x (32 + i) 0 ≡ 0
@@ -154,11 +158,12 @@ pub record NamedTo (n : ℕ) (s : List ℕ) (t : Lent) (i : ℕ) (x : List ℕ) 
   pub within : i ≤ count t
   pub room : length x ≡ 128
   pub is : terms-in s t x i ≡ map (term n (length s)) (map (placed-in s) (terms t i))
-  pub letters : (j : ℕ) → j < i → getD x (32 + j) 0 ≡ 0 → LettersIn t x j
+  pub letters : (j : ℕ) → j < i → getD x (32 + j) 0 ≡ 0 → LettersIn s t x j
+  pub no-letters : (j : ℕ) → j < i → 0 < getD x (32 + j) 0 → NoLetters x j
 
 pub naming₀ : {n : ℕ} {s : List ℕ} {t : Lent} {x : List ℕ} → Nameable s t → length x ≡ 128 → NamedTo n s t 0 x
 unfolding terms terms-in
-naming₀ w l = record { given = w; within = omega arith; room = l; is = refl; letters = λ j h. absurd (omega arith) }
+naming₀ w l = record { given = w; within = omega arith; room = l; is = refl; letters = λ j h. absurd (omega arith); no-letters = λ j h. absurd (omega arith) }
 
 module _ {n : ℕ} {s : List ℕ} {t : Lent} {i : ℕ} {x : List ℕ} (w : NamedTo n s t i x) where
   pub naming-in : i < count t → InLabel s (term-at t i)
@@ -176,8 +181,8 @@ module _ {n : ℕ} {s : List ℕ} {t : Lent} {i : ℕ} {x : List ℕ} (w : Named
     }
 
     pub naming-more : {z : List ℕ} → symbol-in s y ≡ symbol n (between s (getD (t .places) i 0) (getD (t .places) (32 + i) 0))
-        → Noted x i y z → NamedTo n s t (i + 1) z
-    naming-more {z} e v = record {
+        → (y .known ≡ false → LettersAt s (getD (t .places) i 0) (getD (t .places) (32 + i) 0) (y .start) (y .end)) → Noted x i y z → NamedTo n s t (i + 1) z
+    naming-more {z} e f v = record {
       given = w .given;
       within = omega arith;
       room = v .room ∙ w .room;
@@ -187,24 +192,49 @@ module _ {n : ℕ} {s : List ℕ} {t : Lent} {i : ℕ} {x : List ℕ} (w : Named
           ap (map (term n (length s))) (map-append (placed-in s) (terms t i) (term-at t i ∷ []))
           ∙ map-append (term n (length s)) (map (placed-in s) (terms t i)) (placed-in s (term-at t i) ∷ [])));
       letters = λ j l u. go j u (decLt j i) l;
+      no-letters = λ j l u. go-known j u (decLt j i) l;
     }
       where
-        here : getD z (32 + i) 0 ≡ 0 → LettersIn t z i
-        here u = record {
-          from = rw (v .noted .start) (b .from (unknown-told (y .known) (y .unit) (sym (v .noted .unit) ∙ u)));
+        here : getD z (32 + i) 0 ≡ 0 → LettersIn s t z i
+        here u = let k = unknown-told (y .known) (y .unit) (sym (v .noted .unit) ∙ u) in record {
+          from = rw (v .noted .start) (b .from k);
           forward = rw (v .noted .start, v .noted .end) (b .forward);
           upto = rw (v .noted .end) (b .upto);
+          there = rw (v .noted .start, v .noted .end) (f k);
         }
 
-        before : (j : ℕ) → j < i → getD z (32 + j) 0 ≡ 0 → LettersIn t z j
+        here-known : 0 < getD z (32 + i) 0 → NoLetters z i
+        here-known u = let k = b .none (known-told (y .known) (y .unit) (rw (v .noted .unit) at u)) in
+            record { start = v .noted .start ∙ k .0; end = v .noted .end ∙ k .1 }
+
+        before-known : (j : ℕ) → j < i → 0 < getD z (32 + j) 0 → NoLetters z j
+        before-known j l u =
+            let q = v .stay j l in
+            let o = w .no-letters j l (rw (q .unit) at u) in
+            record { start = q .start ∙ o .start; end = q .end ∙ o .end }
+
+        go-known : (j : ℕ) → 0 < getD z (32 + j) 0 → Dec (j < i) → j < i + 1 → NoLetters z j
+        go-known j u (yes l) g = before-known j l u
+        go-known j u (no l) g = let e : j ≡ i = omega arith in rw e (here-known (rw e at u))
+
+        before : (j : ℕ) → j < i → getD z (32 + j) 0 ≡ 0 → LettersIn s t z j
         before j l u =
             let q = v .stay j l in
             let o = w .letters j l (sym (q .unit) ∙ u) in
-            record { from = rw (q .start) (o .from); forward = rw (q .start, q .end) (o .forward); upto = rw (q .end) (o .upto) }
+            record {
+              from = rw (q .start) (o .from);
+              forward = rw (q .start, q .end) (o .forward);
+              upto = rw (q .end) (o .upto);
+              there = rw (q .start, q .end) (o .there);
+            }
 
-        go : (j : ℕ) → getD z (32 + j) 0 ≡ 0 → Dec (j < i) → j < i + 1 → LettersIn t z j
+        go : (j : ℕ) → getD z (32 + j) 0 ≡ 0 → Dec (j < i) → j < i + 1 → LettersIn s t z j
         go j u (yes l) g = before j l u
         go j u (no l) g = let e : j ≡ i = omega arith in rw e (here (rw e at u))
 
   pub named-all : count t ≤ i → AllNamed n s t x
-  named-all h = let same : count t ≡ i = omega (arith, w .within) in record { is = rw same (w .is); letters = λ j l. w .letters j (omega arith) }
+  named-all h = let same : count t ≡ i = omega (arith, w .within) in record {
+    is = rw same (w .is);
+    letters = λ j l. w .letters j (omega arith);
+    no-letters = λ j l. w .no-letters j (omega arith);
+  }

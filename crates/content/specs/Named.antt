@@ -6,6 +6,7 @@ use lib.ListN.{length, getD}
 use Rattle.label.specs.Choice.{pick}
 use Rattle.label.specs.Reading.{term}
 use Rattle.symbols.specs.declared.Symbol.{Symbol}
+use Rattle.symbols.specs.Views.{LettersAt}
 use Rattle.descent.specs.Terms.{Lent, count, terms, placed-in, AllIn}
 use Rattle.content.specs.Views.{terms-in}
 
@@ -45,13 +46,20 @@ pub record Nameable (s : List ℕ) (t : Lent) : Type 0 where
   pub few : count t ≤ 32
   pub inside : AllIn s (terms t (count t))
 
--- the letters of the unknown unit of term i stand in the term's spelling
-pub record LettersIn (t : Lent) (x : List ℕ) (i : ℕ) : Type 0 where
+-- the letters of the unknown unit of term i are in the term's spelling, at their place there
+pub record LettersIn (s : List ℕ) (t : Lent) (x : List ℕ) (i : ℕ) : Type 0 where
   pub from : getD (t .places) i 0 ≤ getD x (64 + i) 0
   pub forward : getD x (64 + i) 0 ≤ getD x (96 + i) 0
   pub upto : getD x (96 + i) 0 ≤ getD (t .places) (32 + i) 0
+  pub there : LettersAt s (getD (t .places) i 0) (getD (t .places) (32 + i) 0) (getD x (64 + i) 0) (getD x (96 + i) 0)
+
+-- no letters are noted for term i
+pub record NoLetters (x : List ℕ) (i : ℕ) : Type 0 where
+  pub start : getD x (64 + i) 0 ≡ 0
+  pub end : getD x (96 + i) 0 ≡ 0
 
 -- the terms with what their spellings stand for
 pub record AllNamed (n : ℕ) (s : List ℕ) (t : Lent) (x : List ℕ) : Type 0 where
   pub is : terms-in s t x (count t) ≡ map (term n (length s)) (map (placed-in s) (terms t (count t)))
-  pub letters : (i : ℕ) → i < count t → getD x (32 + i) 0 ≡ 0 → LettersIn t x i
+  pub letters : (i : ℕ) → i < count t → getD x (32 + i) 0 ≡ 0 → LettersIn s t x i
+  pub no-letters : (i : ℕ) → i < count t → 0 < getD x (32 + i) 0 → NoLetters x i

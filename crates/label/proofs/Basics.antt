@@ -1,11 +1,14 @@
 -- Laws of tests, classes of bytes, runs, and what is found.
-use Prim.Native.Nat.{ℕ, _≤_}
+use Prim.Native.Nat.{ℕ, zero, suc, _-_, _≤_}
 use native.Mathlib.Omega.{arith}
+use native.Mathlib.Nat.{zero-sub, sub-zero, suc-sub-suc}
 use mathlib.Core.Path.{_≡_, refl, sym, _∙_, ap}
 use mathlib.Core.Bool.{Bool, true, false, _&&_}
 use mathlib.Core.List.{List, [], _∷_, _++_}
 use mathlib.Core.Option.{Option, none as nothing, some}
 use lib.Dec.{T, eqb, leb, leb→le}
+use lib.ListN.{take, drop}
+use lib.Seq.{take-nil}
 use borrow.Author.Tests.{eqb-true, lt-leb, le-leb}
 use Rattle.label.specs.Bytes.{letter, digit, nonzero, all, run-on, run, past-on, past, same}
 use Rattle.label.specs.Parse.{Found, none, found, then, mapped, byte, closed}
@@ -182,6 +185,14 @@ run-all p (c ∷ s) = go (p c) refl (run-all p s)
     go : (b : Bool) → p c ≡ b → T (all p (run p s)) → T (all p (run-on b c (run p s)))
     go true e ih = T-and (p c) (all p (run p s)) (true→T e) ih
     go false e ih = tt
+
+-- PARTS
+
+pub drop-take : (k m : ℕ) (l : List ℕ) → drop k (take m l) ≡ take (m - k) (drop k l)
+drop-take zero m l = rw (sub-zero m)
+drop-take (suc k) zero l = rw (zero-sub (suc k))
+drop-take (suc k) (suc m) [] = rw (take-nil {A = ℕ} (suc m - suc k))
+drop-take (suc k) (suc m) (c ∷ l) = rw (suc-sub-suc m k) (drop-take k m l)
 
 -- WHAT MAY FOLLOW A UNIT OR A GROUP IN ANY NOTATION
 

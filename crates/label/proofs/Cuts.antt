@@ -45,7 +45,7 @@ all-pass = tt
 -- THE LAW
 
 -- what follows a beginning makes the whole with it
-follows-is : (p l r : List ℕ) → follows p l ≡ some r → l ≡ p ++ r
+pub follows-is : (p l r : List ℕ) → follows p l ≡ some r → l ≡ p ++ r
 unfolding follows
 follows-is [] l r e = cc
 follows-is (c ∷ p) [] r e = absurd (none-some e)

@@ -194,7 +194,7 @@ prefix-letters (PrefixName.named {p = p} t) = go p (placed-lettered 0 p prefixes
     go [] t = absurd t
     go (c ∷ s) t = let w = both (letter c) (all letter s) t in Letters.letters (w .0) (w .1)
 
-letters-all : {l : List ℕ} → Letters l → T (all letter l)
+pub letters-all : {l : List ℕ} → Letters l → T (all letter l)
 unfolding all
 letters-all (Letters.letters {c = c} {s = s} t a) = T-and (letter c) (all letter s) t a
 

@@ -23,3 +23,4 @@ pub mod Readings
 pub mod Meanings
 pub mod AsWritten
 pub mod Bounds
+pub mod Lettering

@@ -18,5 +18,6 @@ pub mod Reading
 pub mod Conversion
 pub mod Agreement
 pub mod Meaning
+pub mod Letters
 pub mod Samples
 pub mod Ranges

@@ -11,6 +11,7 @@ use Rattle.label.specs.declared.Tens.{Tens}
 use Rattle.label.specs.Reading.{exponent, up-to, dimensions-of, scale-of, refusal, reading-of, answered, reading, refuse, checked}
 use Rattle.label.specs.Reading as spec
 use Rattle.label.proofs.Refusals.{bounds, Outcome, outcome}
+use Rattle.label.proofs.Lettering.{TermSpelt, reading-spelt}
 use Rattle.descent.specs.Terms.{Lent, lent, count}
 use Rattle.content.specs.declared.verdicts.Verdicts.{Verdicts}
 use Rattle.checks.specs.declared.check.Checked.{Checked}
@@ -18,9 +19,9 @@ use Rattle.reading.specs.declared.read.Answer.{Answer}
 use Rattle.content.specs.Views.{term-in, terms-in, scale-in}
 use Rattle.content.specs.Named.{Nameable, AllNamed}
 use Rattle.content.specs.Verdicts.{VerdictsOn}
-use Rattle.content.proofs.Naming.{terms-length, nth-term}
+use Rattle.content.proofs.Naming.{all-in-at, terms-length, nth-term}
 use Rattle.checks.specs.Checks.{Checks}
-use Rattle.reading.proofs.Lettering.{AllLettered, reading-lettered, letters-some}
+use Rattle.reading.proofs.Lettering.{spelt-at, letters-some, noted-at}
 use Rattle.reading.specs.Views.{reading-in}
 use Rattle.reading.specs.Answers.{answer, Accepted, Reads}
 
@@ -34,6 +35,7 @@ accepted₁ {n} {s} {p} {k} {e} w v d c = record {
   is = rw (v s (lent p e) .known-is, v s (lent p e) .lawful-is, v s (lent p e) .recommended-is, d s p, c .1 s p, w .is);
   primes = c .0;
   letters = w .letters;
+  no-letters = w .no-letters;
 }
 
 -- a refusal has a number
@@ -57,6 +59,7 @@ module _ {n : ℕ} {s : List ℕ} {z : Lent} {c : Checked} (w : Checks n s z c) 
       counted = λ q. absurd (omega arith);
       within = λ q. absurd (omega arith);
       letters = λ q. absurd (omega arith);
+      noted = λ q. absurd (omega arith);
     }
 
   module _ (t : not (c .ok) ≡ false) where
@@ -76,14 +79,17 @@ module _ {n : ℕ} {s : List ℕ} {z : Lent} {c : Checked} (w : Checks n s z c) 
       within = λ q. read-nameable;
       letters = λ q i h u.
           let l = a .letters i h u in
-          record { from = l .from; some = letters-some s z x (count z) i all-lettered h u; upto = l .upto };
+          record { from = l .from; some = letters-some s z x i (spelt i h) u; upto = l .upto };
+      noted = λ q i h.
+          let v = all-in-at z (count z) i (read-nameable .inside) h in
+          noted-at s z x i (v .forward) (v .within) (a .letters i h) (a .no-letters i h) (spelt i h);
     }
       where
         whole : reading-in s z x ds cs (answer (c .k) v) ≡ reading n s
         whole = a .is ∙ sym (rw (w .is, not-false (c .ok) t))
 
-        all-lettered : AllLettered (terms-in s z x (count z))
-        all-lettered = rw (← ap (λ (u : spec.Reading). u .terms) whole) at (reading-lettered n s)
+        spelt : (i : ℕ) → i < count z → TermSpelt s (term-in s z x i)
+        spelt i h = spelt-at s z x (count z) i (rw (← ap (λ (u : spec.Reading). u .terms) whole) at (reading-spelt n s)) h
 
 -- WHAT THE ARRAYS HOLD
 

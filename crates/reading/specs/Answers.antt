@@ -6,10 +6,12 @@ use lib.IntN.{ℤ}
 use lib.ListN.{length, getD}
 use Rattle.label.specs.declared.Tens.{Tens}
 use Rattle.label.specs.Reading.{term, reading-of, reading}
+use Rattle.label.specs.Letters.{letters-start, letters-size}
 use Rattle.descent.specs.Terms.{Lent, count, Empty}
 use Rattle.checks.specs.Checks.{units-in}
 use Rattle.content.specs.declared.verdicts.Verdicts.{Verdicts}
-use Rattle.content.specs.Named.{Nameable, LettersIn}
+use Rattle.content.specs.Views.{term-in}
+use Rattle.content.specs.Named.{Nameable, LettersIn, NoLetters}
 use Rattle.content.specs.Sums.{zeros}
 use Rattle.reading.specs.declared.read.Answer.{Answer}
 use Rattle.reading.specs.Views.{reading-in}
@@ -28,13 +30,19 @@ answer k v = record { number = 0; k = k; known = v .known; lawful = v .lawful; r
 pub record Accepted (n : ℕ) (s : List ℕ) (k : Tens) (t : Lent) (x : List ℕ) (ds cs : List ℤ) (v : Verdicts) : Type 0 where
   pub is : reading-in s t x ds cs (answer k v) ≡ reading-of n k (map (term n (length s)) (units-in s t))
   pub primes : length cs ≡ 4
-  pub letters : (i : ℕ) → i < count t → getD x (32 + i) 0 ≡ 0 → LettersIn t x i
+  pub letters : (i : ℕ) → i < count t → getD x (32 + i) 0 ≡ 0 → LettersIn s t x i
+  pub no-letters : (i : ℕ) → i < count t → 0 < getD x (32 + i) 0 → NoLetters x i
 
--- the letters of the unknown unit of term i, one or more, stand in the term's spelling
+-- the letters of the unknown unit of term i, one or more, are in the term's spelling
 pub record Lettered (t : Lent) (x : List ℕ) (i : ℕ) : Type 0 where
   pub from : getD (t .places) i 0 ≤ getD x (64 + i) 0
   pub some : getD x (64 + i) 0 < getD x (96 + i) 0
   pub upto : getD x (96 + i) 0 ≤ getD (t .places) (32 + i) 0
+
+-- the letters of term i are noted where the label has them, none for a known unit
+pub record LettersNoted (s : List ℕ) (t : Lent) (x : List ℕ) (i : ℕ) : Type 0 where
+  pub start : getD x (64 + i) 0 ≡ letters-start (term-in s t x i)
+  pub end : getD x (96 + i) 0 ≡ letters-start (term-in s t x i) + letters-size (term-in s t x i)
 
 -- "what reading the text s in notation n answers": the number; and where it is 0, all else. Then the array of primes has four places, there
 -- are at most 32 terms, whose spellings are in the label, and the letters of an unknown unit are in its term's spelling.
@@ -45,3 +53,4 @@ pub record Reads (n : ℕ) (s : List ℕ) (t : Lent) (x : List ℕ) (ds cs : Lis
   pub counted : r .number ≡ 0 → count t ≡ length (reading n s .terms)
   pub within : r .number ≡ 0 → Nameable s t
   pub letters : r .number ≡ 0 → (i : ℕ) → i < count t → getD x (32 + i) 0 ≡ 0 → Lettered t x i
+  pub noted : r .number ≡ 0 → (i : ℕ) → i < count t → LettersNoted s t x i

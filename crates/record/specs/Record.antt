@@ -13,7 +13,9 @@ use Rattle.label.specs.declared.Tens.{Tens}
 use Rattle.label.specs.Choice.{pick}
 use Rattle.label.specs.Limits.{most-terms}
 use Rattle.label.specs.Symbols.{Symbol, known, unknown}
-use Rattle.label.specs.Reading.{Term, Scale, Reading}
+use Rattle.label.specs.Units.{base-count}
+use Rattle.label.specs.Reading.{Term, Scale, Reading, reading}
+use Rattle.label.specs.Letters.{letters-start, letters-size}
 
 -- A NUMBER IN EIGHT BYTES
 
@@ -66,13 +68,21 @@ unfoldable pub unit-code : Symbol → ℕ
 unit-code (known p u) = code (some u)
 unit-code (unknown p l) = code none
 
--- a term: prefix, unit, exponent in sixtieths, and where the spelling stands
+-- a term: prefix, unit, exponent in sixtieths, where the spelling is, and where the letters of an unknown unit are
 unfoldable pub term-fields : Term → List ℤ
-term-fields t = pos (prefix-code (t .symbol)) ∷ pos (unit-code (t .symbol)) ∷ t .exponent .0 ∷ pos (t .start) ∷ pos (t .size) ∷ []
+term-fields t =
+    pos (prefix-code (t .symbol))
+    ∷ pos (unit-code (t .symbol))
+    ∷ t .exponent .0
+    ∷ pos (t .start)
+    ∷ pos (t .size)
+    ∷ pos (letters-start t)
+    ∷ pos (letters-size t)
+    ∷ []
 
 -- a place without a term
 abbrev pub no-fields : List ℤ
-no-fields = pos 0 ∷ pos 0 ∷ pos 0 ∷ pos 0 ∷ pos 0 ∷ []
+no-fields = pos 0 ∷ pos 0 ∷ pos 0 ∷ pos 0 ∷ pos 0 ∷ pos 0 ∷ pos 0 ∷ []
 
 unfoldable pub terms-fields : List Term → List ℤ
 terms-fields [] = []
@@ -105,6 +115,40 @@ fields r =
 
 unfoldable pub record-of : Reading → List ℕ
 record-of r = encoded (fields r)
+
+-- what is claimed of a record: two accepted readings of one label that have the same record are the same
+abbrev pub Telling : Type 0
+Telling =
+    (n m : ℕ) (s : List ℕ) → reading n s .number ≡ 0 → reading m s .number ≡ 0 → record-of (reading n s) ≡ record-of (reading m s)
+    → reading n s ≡ reading m s
+
+-- PLACES IN THE RECORD, in bytes
+
+-- a number has eight bytes
+abbrev pub field-size : ℕ
+field-size = 8
+
+-- six numbers come before the terms
+abbrev pub head-size : ℕ
+head-size = 6 * field-size
+
+-- a term has seven
+abbrev pub term-size : ℕ
+term-size = 7 * field-size
+
+-- where term i is
+abbrev pub term-place : ℕ → ℕ
+term-place i = head-size + term-size * i
+
+abbrev pub dimensions-place : ℕ
+dimensions-place = term-place most-terms
+
+abbrev pub scale-place : ℕ
+scale-place = dimensions-place + field-size * base-count
+
+-- the scale has four numbers
+abbrev pub record-size : ℕ
+record-size = scale-place + field-size * 4
 
 -- THE LENT BUFFER
 

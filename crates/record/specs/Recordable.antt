@@ -4,15 +4,22 @@ use mathlib.Core.Path.{_≡_}
 use mathlib.Core.List.{List}
 use lib.IntN.{ℤ}
 use lib.ListN.{length, getD}
+use Rattle.label.specs.Limits.{most-bytes, most-terms}
 use Rattle.descent.specs.Terms.{Lent, count}
+use Rattle.reading.specs.Answers.{LettersNoted}
 
--- the spelling of term i ends behind its start, and stands in a label of at most 255 bytes
-pub record Sized (t : Lent) (i : ℕ) : Type 0 where
+-- the spelling of term i ends after its start, in a label of at most 255 bytes, and so do its letters
+pub record Sized (t : Lent) (x : List ℕ) (i : ℕ) : Type 0 where
   pub forward : getD (t .places) i 0 ≤ getD (t .places) (32 + i) 0
-  pub short : getD (t .places) (32 + i) 0 ≤ 255
+  pub short : getD (t .places) (32 + i) 0 ≤ most-bytes
+  pub letters : getD x (64 + i) 0 ≤ getD x (96 + i) 0
 
-pub record Recordable (t : Lent) (ds cs : List ℤ) : Type 0 where
-  pub few : count t ≤ 32
-  pub sized : (i : ℕ) → i < count t → Sized t i
+-- the letters of the first n terms are noted where the label s has them
+pub record AllNoted (s : List ℕ) (t : Lent) (x : List ℕ) (n : ℕ) : Type 0 where
+  pub noted : (i : ℕ) → i < n → LettersNoted s t x i
+
+pub record Recordable (t : Lent) (x : List ℕ) (ds cs : List ℤ) : Type 0 where
+  pub few : count t ≤ most-terms
+  pub sized : (i : ℕ) → i < count t → Sized t x i
   pub dimensions : length ds ≡ 32
   pub scale : length cs ≡ 4

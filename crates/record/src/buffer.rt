@@ -1,13 +1,15 @@
 // The buffer that a caller lends.
+use crate::record::RECORD_SIZE;
 use crate::record::put_record;
 use reading::read::Answer;
 ghost use mathlib.Core.Path.{_≡_};
 ghost use mathlib.Core.List.{List};
 ghost use Prim.Native.Nat.{ℕ};
+ghost use lib.ListN.{getD};
 ghost use Rattle.descent.specs.Terms.{lent};
 ghost use Rattle.reading.specs.Views.{reading-in};
 ghost use Rattle.record.specs.Record.{record-of, written-over};
-ghost use Rattle.record.specs.Recordable.{Recordable};
+ghost use Rattle.record.specs.Recordable.{AllNoted, Recordable};
 
 // Writes the record of a reading over the buffer from its start, as far as it fits.
 pub fn write_record(
@@ -19,20 +21,21 @@ pub fn write_record(
     bases: &[i64; 32],
     primes: &[i64; 4],
 )
-    requires { ⌜ Recordable (lent (now places) (now exponents)) (now bases) (now primes) ⌝ }
-    ensures { λ _. ⌜ ((s : List ℕ) → now (buffer .exit) ≡ written-over (record-of (reading-in s
+    requires { ⌜ Recordable (lent (now places) (now exponents)) (now names) (now bases) (now primes) ⌝ }
+    ensures { λ _. ⌜ ((s : List ℕ) → AllNoted s (lent (now (places .entry)) (now (exponents .entry))) (now (names .entry)) (getD (now (places .entry)) 64 0)
+        → now (buffer .exit) ≡ written-over (record-of (reading-in s
         (lent (now (places .entry)) (now (exponents .entry))) (now (names .entry)) (now (bases .entry)) (now (primes .entry)) a))
         (now (buffer .entry))) ⌝ }
 {
-    if buffer.len() < 1616 {
-        let mut whole = [0; 1616];
+    if buffer.len() < RECORD_SIZE {
+        let mut whole = [0; RECORD_SIZE];
         put_record(&mut whole, a, places, exponents, names, bases, primes);
         let room = buffer.len();
         bytes::copy(&whole[..room], buffer);
         return;
     }
     put_record(
-        &mut buffer[..1616],
+        &mut buffer[..RECORD_SIZE],
         a,
         places,
         exponents,

@@ -4,8 +4,10 @@ use reading::read::Answer;
 ghost use Prim.Native.Nat.{ℕ, _≤_, _<_};
 ghost use mathlib.Core.Path.{_≡_};
 ghost use mathlib.Core.List.{List};
+ghost use Rattle.label.specs.Limits.{most-terms};
 ghost use Rattle.descent.specs.Terms.{lent};
 ghost use Rattle.content.specs.Views.{term-in};
+ghost use Rattle.reading.specs.Answers.{LettersNoted};
 ghost use Rattle.record.specs.Record as spec;
 ghost use Rattle.record.specs.Recordable.{Sized};
 
@@ -24,27 +26,31 @@ pub fn term_fields(
     exponents: &[i32; 32],
     names: &[u8; 128],
     i: usize,
-) -> [i64; 5]
-    requires { ⌜ (i < 32) × Sized (lent (now places) (now exponents)) i ⌝ }
-    ensures { λ r. ⌜ ((s : List ℕ) → r
-        ≡ spec.term-fields (term-in s (lent (now (places .entry)) (now (exponents .entry))) (now (names .entry)) i)) ⌝ }
+) -> [i64; 7]
+    requires { ⌜ (i < most-terms) × Sized (lent (now places) (now exponents)) (now names) i ⌝ }
+    ensures { λ r. ⌜ ((s : List ℕ) → LettersNoted s (lent (now (places .entry)) (now (exponents .entry))) (now (names .entry)) i
+        → r ≡ spec.term-fields (term-in s (lent (now (places .entry)) (now (exponents .entry))) (now (names .entry)) i)) ⌝ }
 {
     let prefix = number_at(names, i);
     let unit = number_at(names, 32 + i);
     let start = places[i];
     let end = places[32 + i];
+    let first = number_at(names, 64 + i);
+    let last = number_at(names, 96 + i);
     [
         prefix as i64,
         unit as i64,
         exponents[i] as i64,
         start as i64,
         (end - start) as i64,
+        first as i64,
+        (last - first) as i64,
     ]
 }
 
 // The numbers before the terms.
 pub fn head_fields(a: Answer, count: usize) -> [i64; 6]
-    requires { ⌜ count ≤ 32 ⌝ }
+    requires { ⌜ count ≤ most-terms ⌝ }
     ensures { λ r. ⌜ r ≡ spec.head-of (a .number) (a .k) (a .known) (a .lawful) (a .recommended) count ⌝ }
 {
     let k = a.k;

@@ -6,13 +6,27 @@ use reading::read::Answer;
 ghost use Prim.Native.Nat.{ℕ, _+_, _*_, _-_, _≤_, _<_};
 ghost use mathlib.Core.Path.{_≡_};
 ghost use mathlib.Core.List.{List, _++_};
-ghost use lib.ListN.{length, take};
+ghost use lib.ListN.{length, take, getD};
 ghost use Rattle.label.specs.Limits.{most-terms};
 ghost use Rattle.descent.specs.Terms.{lent};
 ghost use Rattle.content.specs.Views.{terms-in};
 ghost use Rattle.reading.specs.Views.{reading-in};
-ghost use Rattle.record.specs.Record.{encoded, terms-fields, empty-fields, record-of};
-ghost use Rattle.record.specs.Recordable.{Sized, Recordable};
+ghost use Rattle.record.specs.Record.{encoded, terms-fields, empty-fields, record-of, head-size, term-place, dimensions-place, record-size};
+ghost use Rattle.record.specs.Recordable.{Sized, AllNoted, Recordable};
+
+// Places in the record, in bytes: term 0 comes after six numbers, a term has seven, and after 32 of them come 32 numbers for the bases and
+// four for the primes.
+const HEAD_SIZE: usize = 48;
+
+const TERM_SIZE: usize = 56;
+
+const DIMENSIONS_PLACE: usize = 1840;
+
+const SCALE_PLACE: usize = 2096;
+
+pub const RECORD_SIZE: usize = 2128;
+
+const MOST_TERMS: usize = 32;
 
 // Writes the first `count` terms.
 fn put_terms(
@@ -22,28 +36,29 @@ fn put_terms(
     exponents: &[i32; 32],
     names: &[u8; 128],
 )
-    requires { ⌜ (count ≤ 32) × (1328 ≤ length (now b)) ⌝ }
-    requires { ⌜ ((i : ℕ) → i < count → Sized (lent (now places) (now exponents)) i) ⌝ }
-    ensures { λ _. ⌜ ((s : List ℕ) → take (48 + 40 * count) (now (b .exit)) ≡ take 48 (now (b .entry))
+    requires { ⌜ (count ≤ most-terms) × (dimensions-place ≤ length (now b)) ⌝ }
+    requires { ⌜ ((i : ℕ) → i < count → Sized (lent (now places) (now exponents)) (now names) i) ⌝ }
+    ensures { λ _. ⌜ ((s : List ℕ) → AllNoted s (lent (now (places .entry)) (now (exponents .entry))) (now (names .entry)) count
+        → take (term-place count) (now (b .exit)) ≡ take head-size (now (b .entry))
         ++ encoded (terms-fields (terms-in s (lent (now (places .entry)) (now (exponents .entry))) (now (names .entry)) count))) ⌝ }
 {
     let mut i = 0;
     while i < count {
         let f = term_fields(places, exponents, names, i);
-        put_all(b, 48 + 40 * i, &f);
+        put_all(b, HEAD_SIZE + TERM_SIZE * i, &f);
         i += 1;
     }
 }
 
-// Writes zeros into the places behind the terms.
+// Writes zeros into the places after the terms.
 fn put_no_terms(b: &mut [u8], count: usize)
-    requires { ⌜ (count ≤ 32) × (1328 ≤ length (now b)) ⌝ }
-    ensures { λ _. ⌜ take 1328 (now (b .exit)) ≡ take (48 + 40 * count) (now (b .entry)) ++ encoded (empty-fields (most-terms - count)) ⌝ }
+    requires { ⌜ (count ≤ most-terms) × (dimensions-place ≤ length (now b)) ⌝ }
+    ensures { λ _. ⌜ take dimensions-place (now (b .exit)) ≡ take (term-place count) (now (b .entry)) ++ encoded (empty-fields (most-terms - count)) ⌝ }
 {
-    let none = [0; 5];
+    let none = [0; 7];
     let mut i = count;
-    while i < 32 {
-        put_all(b, 48 + 40 * i, &none);
+    while i < MOST_TERMS {
+        put_all(b, HEAD_SIZE + TERM_SIZE * i, &none);
         i += 1;
     }
 }
@@ -58,8 +73,9 @@ pub fn put_record(
     bases: &[i64; 32],
     primes: &[i64; 4],
 )
-    requires { ⌜ (length (now b) ≡ 1616) × Recordable (lent (now places) (now exponents)) (now bases) (now primes) ⌝ }
-    ensures { λ _. ⌜ ((s : List ℕ) → now (b .exit) ≡ record-of (reading-in s (lent (now (places .entry)) (now (exponents .entry)))
+    requires { ⌜ (length (now b) ≡ record-size) × Recordable (lent (now places) (now exponents)) (now names) (now bases) (now primes) ⌝ }
+    ensures { λ _. ⌜ ((s : List ℕ) → AllNoted s (lent (now (places .entry)) (now (exponents .entry))) (now (names .entry)) (getD (now (places .entry)) 64 0)
+        → now (b .exit) ≡ record-of (reading-in s (lent (now (places .entry)) (now (exponents .entry)))
         (now (names .entry)) (now (bases .entry)) (now (primes .entry)) a)) ⌝ }
 {
     let count = places[64];
@@ -67,6 +83,6 @@ pub fn put_record(
     put_all(b, 0, &head);
     put_terms(b, count, places, exponents, names);
     put_no_terms(b, count);
-    put_all(b, 1328, bases);
-    put_all(b, 1584, primes);
+    put_all(b, DIMENSIONS_PLACE, bases);
+    put_all(b, SCALE_PLACE, primes);
 }

@@ -1,15 +1,16 @@
 -- Parts of a text: their first bytes, lengths and parts, and that their bytes are bytes.
 use Prim.Native.Nat.{ℕ, zero, suc, _≤_, _<_, _-_, _+_}
 use native.Mathlib.Omega.{arith}
-use native.Mathlib.Nat.{sub-self, zero-sub, sub-zero, suc-sub-suc}
+use native.Mathlib.Nat.{sub-self}
 use native.Mathlib.Numerals.{add-one}
 use mathlib.Core.Path.{_≡_}
 use mathlib.Core.List.{List, [], _∷_, _++_}
 use lib.ListN.{length, take, drop, getD, length-drop}
-use lib.Seq.{drop-cons, take-add, drop-drop, take-take, take-nil, length-take-le}
+use lib.Seq.{drop-cons, take-add, drop-drop, take-take, length-take-le}
 use mir.Syntax.{w8}
 use mir.Val.{Fits}
 use Rattle.label.specs.Ranges.{between}
+use Rattle.label.proofs.Basics.{drop-take}
 
 pub part-none : (s : List ℕ) (a : ℕ) → between s a a ≡ []
 part-none s a = rw (sub-self a)
@@ -35,12 +36,6 @@ pub part-take : (s : List ℕ) (a e k : ℕ) → a + k ≤ e → take k (between
 part-take s a e k h =
     let x : a + k - a ≡ k = omega arith in
     rw (x, take-take k (e - a) (drop a s) (omega arith))
-
-drop-take : (k m : ℕ) (l : List ℕ) → drop k (take m l) ≡ take (m - k) (drop k l)
-drop-take zero m l = rw (sub-zero m)
-drop-take (suc k) zero l = rw (zero-sub (suc k))
-drop-take (suc k) (suc m) [] = rw (take-nil {A = ℕ} (suc m - suc k))
-drop-take (suc k) (suc m) (c ∷ l) = rw (suc-sub-suc m k) (drop-take k m l)
 
 pub part-drop : (s : List ℕ) (a e k : ℕ) → drop k (between s a e) ≡ between s (a + k) e
 part-drop s a e k =

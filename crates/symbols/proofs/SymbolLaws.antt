@@ -16,7 +16,7 @@ use Rattle.label.specs.Prefixes.{prefix-named}
 use Rattle.label.specs.Ranges.{between}
 use Rattle.symbols.specs.declared.Cut.{Cut as Cutting}
 use Rattle.symbols.specs.declared.Symbol.{Symbol as Coded}
-use Rattle.symbols.specs.Views.{place, behind, prefix-cut, unit-cut, Bounded, CutAt, FirstQuote}
+use Rattle.symbols.specs.Views.{place, behind, prefix-cut, unit-cut, Bounded, LettersAt, CutAt, FirstQuote}
 use Rattle.symbols.proofs.CutLaws.{cut-list, two-then-one}
 use Rattle.symbols.proofs.Parts.{part-none, part-cons, part-length, part-take, part-drop}
 
@@ -38,9 +38,9 @@ placed-at r h =
     go : (k : ℕ) → r ≡ suc k → place r ≡ some k
     go k e = rw e
 
--- letters in a part stand in the whole
+-- letters in a part are in the whole
 pub wider : {a b y z : ℕ} {x : Coded} → Bounded b y x → a ≤ b → y ≤ z → Bounded a z x
-wider w h g = record { row = w .row; from = λ e. omega (arith, w .from e); forward = w .forward; upto = omega (arith, w .upto) }
+wider w h g = record { row = w .row; from = λ e. omega (arith, w .from e); forward = w .forward; upto = omega (arith, w .upto); none = w .none }
 
 -- what a spelling stands for whose whole is unknown: prefixes p, q and units u, v behind two letters and behind one
 unfoldable pub chosen : List ℕ → Option ℕ → Option ℕ → Option ℕ → Option ℕ → Symbol
@@ -188,3 +188,20 @@ module _ (n : ℕ) {s : List ℕ} {start end q : ℕ} (g : end ≤ length s) (w 
   without-quote h =
       let e : q ≡ end = omega (arith, w .upto) in
       rw (← w .after, e, part-none s end)
+
+-- where the letters are
+module _ {s : List ℕ} {start end q : ℕ} (g : end ≤ length s) (w : FirstQuote s start end q) where
+  pub letters-quoted : q < end → {first : ℕ} (last : ℕ) → first ≡ q + 1 → LettersAt s start end first last
+  letters-quoted h last e = record {
+    quoted = λ c t z. let k = part-length s start q (w .from) (omega (arith, w .upto)) in rw (← w .before) (omega arith);
+    plain = λ z. let k : suc (length (between s (q + 1) end)) ≡ 0 = ap length (sym (part-cons s q end h g) ∙ w .after ∙ z) in absurd (omega arith);
+  }
+
+  pub letters-plain : end ≤ q → (first : ℕ) {last : ℕ} → last ≡ end → LettersAt s start end first last
+  letters-plain h first e = record {
+    quoted = λ c t z.
+        let i : q ≡ end = omega (arith, w .upto) in
+        let k : 0 ≡ suc (length t) = ap length (sym (part-none s end) ∙ rw i at (w .after) ∙ z) in
+        absurd (omega arith);
+    plain = λ z. e;
+  }

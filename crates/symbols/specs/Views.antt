@@ -1,10 +1,10 @@
 -- What the numbers and structs of the code stand for.
-use Prim.Native.Nat.{ℕ, zero, suc, _≤_, _<_}
+use Prim.Native.Nat.{ℕ, zero, suc, _+_, _≤_, _<_}
 use mathlib.Core.Path.{_≡_}
-use mathlib.Core.Bool.{false}
+use mathlib.Core.Bool.{true, false}
 use mathlib.Core.List.{List, [], _∷_}
 use mathlib.Core.Option.{Option, none, some}
-use lib.ListN.{take, drop}
+use lib.ListN.{length, take, drop}
 use Rattle.label.specs.Bytes.{run, past}
 use Rattle.label.specs.Choice.{pick}
 use Rattle.label.specs.Ranges.{between}
@@ -26,12 +26,17 @@ unfoldable pub symbol-in : List ℕ → Symbol → spec.Symbol
 symbol-in s x =
     pick (x .known) (known (place (x .prefix)) (x .unit)) (unknown (place (x .prefix)) (between s (x .start) (x .end)))
 
--- the letters of an unknown unit stand between start and end; and one more than a unit's row fits a byte
+-- the letters of an unknown unit are between start and end, and a known unit has none; and one more than a unit's row fits a byte
 pub record Bounded (start end : ℕ) (x : Symbol) : Type 0 where
   pub row : x .unit < 255
   pub from : x .known ≡ false → start ≤ x .start
   pub forward : x .start ≤ x .end
   pub upto : x .end ≤ end
+  pub none : x .known ≡ true → (x .start ≡ 0) × (x .end ≡ 0)
+
+-- the letters of an unknown unit, if it is one, go up to the end
+pub record UpTo (end : ℕ) (x : Symbol) : Type 0 where
+  pub last : x .known ≡ false → x .end ≡ end
 
 -- the first quote of s from start up to end stands at r, or r is the end
 pub record FirstQuote (s : List ℕ) (start end r : ℕ) : Type 0 where
@@ -39,6 +44,12 @@ pub record FirstQuote (s : List ℕ) (start end r : ℕ) : Type 0 where
   pub upto : r ≤ end
   pub before : between s start r ≡ run unquoted (between s start end)
   pub after : between s r end ≡ past unquoted (between s start end)
+
+-- the letters from first up to last of an unknown unit that is spelled by the bytes of s from start up to end: they start after the first
+-- quote, and without a quote they go up to the end
+pub record LettersAt (s : List ℕ) (start end first last : ℕ) : Type 0 where
+  pub quoted : (c : ℕ) (t : List ℕ) → past unquoted (between s start end) ≡ c ∷ t → first ≡ start + suc (length (run unquoted (between s start end)))
+  pub plain : past unquoted (between s start end) ≡ [] → last ≡ end
 
 -- CUTS
 

@@ -6,7 +6,7 @@ use crate::spelling::has_notation;
 use crate::spelling::key;
 use crate::spelling::same_symbol;
 ghost use mathlib.Core.Path.{_≡_};
-ghost use mathlib.Core.Bool.{_&&_};
+ghost use mathlib.Core.Bool.{false, _&&_};
 ghost use mathlib.Core.List.{List};
 ghost use Prim.Native.Nat.{ℕ, _≤_, _<_, _+_, _-_};
 ghost use lib.Dec.{eqb};
@@ -19,7 +19,7 @@ ghost use Rattle.symbols.specs.Keys.{agrees};
 ghost use Rattle.symbols.specs.Sets.{has-bit};
 ghost use Rattle.symbols.specs.Names.{name-in};
 ghost use Rattle.symbols.specs.Columns.{NameColumns, PrefixColumns, name-notations, name-units};
-ghost use Rattle.symbols.specs.Views.{place, symbol-in, Bounded, CutAt};
+ghost use Rattle.symbols.specs.Views.{place, symbol-in, Bounded, UpTo, LettersAt, CutAt};
 
 // How many names and prefixes the tables have, and how many letters a key can hold.
 const NAMES: usize = 67;
@@ -93,7 +93,7 @@ pub fn prefix_named(lengths: &[u8], keys: &[u64], s: &[u8], start: usize, end: u
 fn known_symbol(prefix: u8, unit: u8) -> Symbol
     requires { ⌜ 0 < unit ⌝ }
     ensures { λ r. ⌜ ((s : List ℕ) → symbol-in s r ≡ known (place prefix) (unit - 1)) ⌝ }
-    ensures { λ r. ⌜ ((start end : ℕ) → Bounded start end r) ⌝ }
+    ensures { λ r. ⌜ ((start end : ℕ) → Bounded start end r × UpTo end r) ⌝ }
 {
     Symbol {
         known: true,
@@ -108,7 +108,7 @@ fn known_symbol(prefix: u8, unit: u8) -> Symbol
 fn unknown_symbol(prefix: u8, start: usize, end: usize) -> Symbol
     requires { ⌜ start ≤ end ⌝ }
     ensures { λ r. ⌜ ((s : List ℕ) → symbol-in s r ≡ unknown (place prefix) (between s start end)) ⌝ }
-    ensures { λ r. ⌜ Bounded start end r ⌝ }
+    ensures { λ r. ⌜ Bounded start end r × ((r .start ≡ start) × (r .end ≡ end)) ⌝ }
 {
     Symbol {
         known: false,
@@ -168,7 +168,7 @@ fn by_cut(
     requires { ⌜ (start ≤ end) × (end ≤ length (now s)) ⌝ }
     ensures { λ r. ⌜ symbol-in (now (s .entry)) r
         ≡ by-cut (between (now (s .entry)) start end) (known-cuts n (between (now (s .entry)) start end)) ⌝ }
-    ensures { λ r. ⌜ Bounded start end r ⌝ }
+    ensures { λ r. ⌜ Bounded start end r × UpTo end r ⌝ }
 {
     let two = cut(
         lengths,
@@ -229,7 +229,7 @@ fn unquoted_symbol(
     requires { ⌜ (start ≤ end) × (end ≤ length (now s)) ⌝ }
     ensures { λ r. ⌜ symbol-in (now (s .entry)) r
         ≡ by-whole n (between (now (s .entry)) start end) (unit-named n (between (now (s .entry)) start end)) ⌝ }
-    ensures { λ r. ⌜ Bounded start end r ⌝ }
+    ensures { λ r. ⌜ Bounded start end r × UpTo end r ⌝ }
 {
     let whole = unit_named(lengths, keys, notations, units, n, s, start, end);
     if 0 < whole {
@@ -263,7 +263,7 @@ fn quoted_symbol(
     ensures { λ r. ⌜ symbol-in (now (s .entry)) r
         ≡ unknown (prefix-named (between (now (s .entry)) start quote))
         (run unquoted (between (now (s .entry)) (quote + 1) end)) ⌝ }
-    ensures { λ r. ⌜ Bounded start end r ⌝ }
+    ensures { λ r. ⌜ Bounded start end r × (r .start ≡ quote + 1) ⌝ }
 {
     let prefix = prefix_named(prefix_lengths, prefix_keys, s, start, quote);
     let first = quote + 1;
@@ -289,6 +289,7 @@ pub fn symbol(
     requires { ⌜ (start ≤ end) × (end ≤ length (now s)) ⌝ }
     ensures { λ r. ⌜ symbol-in (now (s .entry)) r ≡ symbol n (between (now (s .entry)) start end) ⌝ }
     ensures { λ r. ⌜ Bounded start end r ⌝ }
+    ensures { λ r. ⌜ (r .known ≡ false → LettersAt (now (s .entry)) start end (r .start) (r .end)) ⌝ }
 {
     let quote = first_quote(s, start, end);
     if quote < end {

@@ -44,10 +44,10 @@ all-named-spec =
     (λ c κs.
     let inv = c .before .before .before .before .before .before .before .before .before .before .before .loop .inv in
     let h = c .before .before .before .before .before .before .before .before .before .before .loop-test .taken in
-    (inv .room, (naming-few inv h, naming-short inv h (c .before .symbol .ensures .1))))
+    (inv .room, (naming-few inv h, naming-short inv h (c .before .symbol .ensures .1 .0))))
     (λ c. search needs)
     (λ c. search needs)
     (λ c.
     let symbol = c .before .before .symbol in
-    naming-more (c .before .before .before .before .before .before .before .before .before .before .before .before .loop .inv) (c .before .before .before .before .before .before .before .before .before .before .before .loop-test .taken) (symbol .ensures .1) (symbol .ensures .0) (c .note .ensures))
+    naming-more (c .before .before .before .before .before .before .before .before .before .before .before .before .loop .inv) (c .before .before .before .before .before .before .before .before .before .before .before .loop-test .taken) (symbol .ensures .1 .0) (symbol .ensures .0) (symbol .ensures .1 .1) (c .note .ensures))
     (λ c. search (named-all, arith)))

@@ -53,7 +53,7 @@ returns-3 c = (
       (c .before .before .before .before .before .before .before .before .cut .ensures) (c .before .before .before .before .before .before .if1 .left)
       (c .before .before .before .before .before .cut2 .ensures) (c .before .before .before .if2 .left)
       (c .before .if3 .taken),
-  wider (c .unknown-symbol .ensures .1) (omega arith) (omega arith),
+  (wider (c .unknown-symbol .ensures .1 .0) (omega arith) (omega arith), record { last = λ e. c .unknown-symbol .ensures .1 .1 .1 }),
 )
 
 add-unknown-symbol-2 : tie.Need-add-unknown-symbol-2
@@ -75,7 +75,7 @@ returns-4 c = (
       (c .before .before .before .before .before .before .before .before .before .before .cut .ensures) (c .before .before .before .before .before .before .before .before .if1 .left)
       (c .before .before .before .before .before .before .before .cut2 .ensures) (c .before .before .before .before .before .if2 .left)
       (c .before .before .before .if3 .left) (c .before .if4 .taken),
-  wider (c .unknown-symbol2 .ensures .1) (omega arith) (omega arith),
+  (wider (c .unknown-symbol2 .ensures .1 .0) (omega arith) (omega arith), record { last = λ e. c .unknown-symbol2 .ensures .1 .1 .1 }),
 )
 
 unknown-symbol-requires-3 : tie.Need-unknown-symbol-requires-3
@@ -88,7 +88,7 @@ returns-5 c = (
       (c .before .before .before .before .before .before .before .before .before .before .cut .ensures) (c .before .before .before .before .before .before .before .before .if1 .left)
       (c .before .before .before .before .before .before .before .cut2 .ensures) (c .before .before .before .before .before .if2 .left)
       (c .before .before .before .if3 .left) (c .before .if4 .left),
-  c .unknown-symbol3 .ensures .1,
+  (c .unknown-symbol3 .ensures .1 .0, record { last = λ e. c .unknown-symbol3 .ensures .1 .1 .1 }),
 )
 
 pub by-cut-spec : {M : Type 1} → statement M

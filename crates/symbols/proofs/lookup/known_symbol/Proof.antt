@@ -1,7 +1,7 @@
 -- `symbols::lookup::known_symbol` meets its contract by what a symbol stands for.
 use native.Mathlib.Omega.{arith}
-use Prim.Native.Nat.{ℕ}
-use mathlib.Core.Path.{_≡_, refl}
+use mathlib.Core.Path.{refl, sym}
+use Rattle.label.proofs.Basics.{false-true}
 use Rattle.symbols.specs.Views.{symbol-in}
 use borrow.Author.Needs.{needs}
 use Rattle.symbols.proofs.lookup.known_symbol.Statement.{statement}
@@ -12,7 +12,13 @@ sub-t3 c = search needs
 
 returns : tie.Need-returns
 unfolding symbol-in
-returns c = (λ s. refl, λ start end. record { row = omega arith; from = λ e. let z : _≡_ {A = ℕ} 0 1 = cc in omega arith; forward = omega arith; upto = omega arith })
+returns c = (
+  λ s. refl,
+  λ start end. (
+    record { row = omega arith; from = λ e. absurd (false-true (sym e)); forward = omega arith; upto = omega arith; none = λ e. (refl, refl) },
+    record { last = λ e. absurd (false-true (sym e)) },
+  ),
+)
 
 pub known-symbol-spec : {M : Type 1} → statement M
 known-symbol-spec = tie.close (tie.spec sub-t3 returns)

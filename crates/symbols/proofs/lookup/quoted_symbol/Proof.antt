@@ -21,7 +21,7 @@ unknown-symbol-requires c κs = c .first-quote .ensures .from
 returns : tie.Need-returns
 returns c = (
   c .unknown-symbol .ensures .0 _ ∙ rw (c .before .before .prefix-named .ensures, c .before .first-quote .ensures .before),
-  wider (c .unknown-symbol .ensures .1) (omega arith) (omega (arith, c .before .first-quote .ensures .upto)),
+  (wider (c .unknown-symbol .ensures .1 .0) (omega arith) (omega (arith, c .before .first-quote .ensures .upto)), c .unknown-symbol .ensures .1 .1 .0),
 )
 
 pub quoted-symbol-spec : {M : Type 1} → statement M

@@ -1,5 +1,5 @@
 use mathlib.Core.Path.{_∙_}
-use Rattle.symbols.proofs.SymbolLaws.{with-quote, without-quote}
+use Rattle.symbols.proofs.SymbolLaws.{with-quote, without-quote, letters-quoted, letters-plain}
 use borrow.Author.Needs.{needs}
 use Rattle.symbols.proofs.lookup.symbol.Statement.{statement}
 use Rattle.symbols.proofs.lookup.symbol.Tie as tie
@@ -15,7 +15,12 @@ returns c = (
   c .quoted-symbol .ensures .0
       ∙ with-quote _ (c .before .before .before .before .before .before .before .before .before .before .pre .1 .1 .1)
       (c .before .before .first-quote .ensures) (c .before .if1 .taken),
-  c .quoted-symbol .ensures .1,
+  (
+    c .quoted-symbol .ensures .1 .0,
+    λ e.
+    letters-quoted (c .before .before .before .before .before .before .before .before .before .before .pre .1 .1 .1)
+    (c .before .before .first-quote .ensures) (c .before .if1 .taken) _ (c .quoted-symbol .ensures .1 .1),
+  ),
 )
 
 unquoted-symbol-requires : tie.Need-unquoted-symbol-requires
@@ -26,7 +31,12 @@ returns-2 c = (
   c .unquoted-symbol .ensures .0
       ∙ without-quote _ (c .before .before .before .before .before .before .before .before .before .before .pre .1 .1 .1)
       (c .before .before .first-quote .ensures) (c .before .if1 .left),
-  c .unquoted-symbol .ensures .1,
+  (
+    c .unquoted-symbol .ensures .1 .0,
+    λ e.
+    letters-plain (c .before .before .before .before .before .before .before .before .before .before .pre .1 .1 .1)
+    (c .before .before .first-quote .ensures) (c .before .if1 .left) _ (c .unquoted-symbol .ensures .1 .1 .last e),
+  ),
 )
 
 pub symbol-spec : {M : Type 1} → statement M

@@ -1,0 +1,270 @@
+-- The letters of an unknown unit, by the grammar: a spelling is a prefix name or nothing, and letters, in quotes or not.
+use Prim.Native.Nat.{ℕ, zero, suc, _+_, _-_, _≤_, _<_}
+use native.Mathlib.Omega.{arith}
+use mathlib.Core.Path.{_≡_, refl, sym, ap, _∙_}
+use mathlib.Core.Bool.{Bool, true, false}
+use mathlib.Core.List.{List, [], _∷_, _++_, map, append-assoc, append-nil}
+use mathlib.Core.Option.{Option, none, some}
+use lib.Dec.{T, leb}
+use lib.IntN.{pos}
+use lib.ListN.{length, getD, take, drop, length-append}
+use lib.Seq.{take-at, drop-at, take-take, drop-drop}
+use borrow.Author.Tests.{lt-ltb, le-ltb}
+use Rattle.label.specs.declared.Rules.{Rules}
+use Rattle.label.specs.Bytes.{letter, all, run, past, same}
+use Rattle.label.specs.Choice.{pick}
+use Rattle.label.specs.Prefixes.{Prefix, prefix, prefixes, placed, prefix-named, is-some, prefix-name}
+use Rattle.label.specs.Symbols.{Symbol, known, unknown, Cut, KnownCut, unquoted, follows, cut-by, cuts-from, cuts, known-cuts, longer, longest, by-longest, by-cut, by-whole, by-quote, unit-named, symbol}
+use Rattle.label.specs.Lexical.{Part, Factor, turned-all, Kind, Letters, PrefixName, Quoted}
+use Rattle.label.specs.Split.{Placed}
+use Rattle.label.specs.Reading.{Term, term, answered, refusal, reading-of, reading}
+use Rattle.label.specs.Letters.{name-of, before-letters, letters-from, letters-start, letters-of, letters-size}
+use Rattle.label.proofs.Basics.{none-some, both, T-and, true→T, differs, same-is, Stops, run-of, past-of, run-past, drop-take}
+use Rattle.label.proofs.Computing.{symbols-compute}
+use Rattle.label.proofs.Cuts.{follows-is}
+use Rattle.label.proofs.General.{SpellingBy, G, LabelBy}
+use Rattle.label.proofs.LexComplete.{prefix-letters, letters-all}
+use Rattle.label.proofs.Ruled.{derives-by}
+use Rattle.label.proofs.Refusals.{Values, valued-values}
+use Rattle.label.proofs.Places.{AllStand, label-stands, stands-there}
+use Rattle.label.proofs.Readings.{Answered, answer-of}
+
+-- what a spelling l stands for: a known unit; letters after a prefix name or nothing; or letters in quotes there
+pub data Spelt (l : List ℕ) : Symbol → Type 0 where
+  is-known : {p : Option ℕ} {u : ℕ} → Spelt l (known p u)
+  plain : {p : Option ℕ} {m : List ℕ} → past unquoted l ≡ [] → l ≡ name-of p ++ m → 0 < length m → Spelt l (unknown p m)
+  in-quotes : {p : Option ℕ} {m : List ℕ} → run unquoted l ≡ name-of p → past unquoted l ≡ 39 ∷ (m ++ (39 ∷ [])) → 0 < length m → Spelt l (unknown p m)
+
+-- NAMES OF PREFIXES
+
+-- the prefixes from the place i on
+record Table (i : ℕ) (ps : List Prefix) : Type 0 where
+  names : (k : ℕ) → getD ps k (prefix "" (pos 0)) .name ≡ name-of (some (i + k))
+
+table : Table 0 prefixes
+table = record { names = λ k. let z : 0 + k ≡ k = omega arith in rw z }
+
+table-first : {i : ℕ} {p : Prefix} {ps : List Prefix} → Table i (p ∷ ps) → p .name ≡ name-of (some i)
+table-first {i} w = let z : i + 0 ≡ i = omega arith in w .names 0 ∙ ap (λ (j : ℕ). name-of (some j)) z
+
+table-rest : {i : ℕ} {p : Prefix} {ps : List Prefix} → Table i (p ∷ ps) → Table (suc i) ps
+table-rest {i} w = record { names = λ k. let z : i + suc k ≡ suc i + k = omega arith in w .names (suc k) ∙ ap (λ (j : ℕ). name-of (some j)) z }
+
+placed-name : (i : ℕ) (l : List ℕ) (ps : List Prefix) (j : ℕ) → Table i ps → placed i l ps ≡ some j → name-of (some j) ≡ l
+unfolding placed
+placed-name i l [] j w e = absurd (none-some e)
+placed-name i l (p ∷ ps) j w e = go (same l (p .name)) refl (placed-name (suc i) l ps j (table-rest w)) e
+  where
+    go : (b : Bool) → same l (p .name) ≡ b → (placed (suc i) l ps ≡ some j → name-of (some j) ≡ l) → pick b (some i) (placed (suc i) l ps) ≡ some j
+        → name-of (some j) ≡ l
+    go true q ih e = let z : i ≡ j = cc in rw (← z) (sym (same-is l (p .name) q ∙ table-first w))
+    go false q ih e = ih e
+
+-- the prefix of a prefix name has that name
+name-named : {p : List ℕ} → PrefixName p → name-of (prefix-named p) ≡ p
+unfolding prefix-name prefix-named
+name-named (PrefixName.named {p = p} t) = go (placed 0 p prefixes) refl t
+  where
+    go : (o : Option ℕ) → placed 0 p prefixes ≡ o → T (is-some o) → name-of o ≡ p
+    go none e t = absurd t
+    go (some j) e t = placed-name 0 p prefixes j table e
+
+-- THE RULE OF THE FIRST FIT
+
+-- a cut of l leaves letters after the prefix's name
+record CutOf (l : List ℕ) (x : Cut) : Type 0 where
+  is : l ≡ name-of (some (x .prefix)) ++ x .rest
+  letters : 0 < length (x .rest)
+
+data CutsOf (l : List ℕ) : List Cut → Type 0 where
+  no-cuts : CutsOf l []
+  a-cut : {x : Cut} {xs : List Cut} → CutOf l x → CutsOf l xs → CutsOf l (x ∷ xs)
+
+data CutOr (l : List ℕ) : Option Cut → Type 0 where
+  no-cut : CutOr l none
+  one-cut : {x : Cut} → CutOf l x → CutOr l (some x)
+
+cuts-both : {l : List ℕ} {xs ys : List Cut} → CutsOf l xs → CutsOf l ys → CutsOf l (xs ++ ys)
+cuts-both CutsOf.no-cuts b = b
+cuts-both (CutsOf.a-cut h a) b = CutsOf.a-cut h (cuts-both a b)
+
+cut-of : (l : List ℕ) (i : ℕ) (p : Prefix) (o : Option (List ℕ)) → p .name ≡ name-of (some i) → follows (p .name) l ≡ o → CutsOf l (cut-by i o)
+unfolding cut-by
+cut-of l i p none q e = CutsOf.no-cuts
+cut-of l i p (some []) q e = CutsOf.no-cuts
+cut-of l i p (some (c ∷ r)) q e =
+    CutsOf.a-cut {x = record { prefix = i; rest = c ∷ r }} (record { is = follows-is (p .name) l (c ∷ r) e ∙ ap (λ (x : List ℕ). x ++ (c ∷ r)) q; letters = omega arith }) CutsOf.no-cuts
+
+cuts-of : (i : ℕ) (ps : List Prefix) (l : List ℕ) → Table i ps → CutsOf l (cuts-from i ps l)
+unfolding cuts-from
+cuts-of i [] l w = CutsOf.no-cuts
+cuts-of i (p ∷ ps) l w = cuts-both (cut-of l i p (follows (p .name) l) (table-first w) refl) (cuts-of (suc i) ps l (table-rest w))
+
+longer-cut : {l : List ℕ} (x : Cut) (o : Option Cut) → CutOf l x → CutOr l o → CutOr l (longer x o)
+unfolding longer
+longer-cut x none h r = CutOr.one-cut h
+longer-cut {l} x (some y) h (CutOr.one-cut g) = go (leb (length (x .rest)) (length (y .rest)))
+  where
+    go : (b : Bool) → CutOr l (pick b (some x) (some y))
+    go true = CutOr.one-cut h
+    go false = CutOr.one-cut g
+
+longest-cut : {l : List ℕ} {xs : List Cut} → CutsOf l xs → CutOr l (longest xs)
+unfolding longest
+longest-cut CutsOf.no-cuts = CutOr.no-cut
+longest-cut (CutsOf.a-cut {x = x} {xs = xs} h r) = longer-cut x (longest xs) h (longest-cut r)
+
+module _ {l : List ℕ} (h : 0 < length l) (e : past unquoted l ≡ []) where
+  by-longest-spelt : (o : Option Cut) → CutOr l o → Spelt l (by-longest l o)
+  unfolding by-longest
+  by-longest-spelt none r = Spelt.plain e refl h
+  by-longest-spelt (some x) (CutOr.one-cut g) = Spelt.plain e (g .is) (g .letters)
+
+  by-cut-spelt : (ks : List KnownCut) → Spelt l (by-cut l ks)
+  unfolding by-cut cuts
+  by-cut-spelt [] = by-longest-spelt (longest (cuts l)) (longest-cut (cuts-of 0 prefixes l table))
+  by-cut-spelt (k ∷ ks) = Spelt.is-known
+
+  by-whole-spelt : (n : ℕ) (o : Option ℕ) → Spelt l (by-whole n l o)
+  unfolding by-whole
+  by-whole-spelt n none = by-cut-spelt (known-cuts n l)
+  by-whole-spelt n (some u) = Spelt.is-known
+
+  plain-spelt : (n : ℕ) → Spelt l (symbol n l)
+  unfolding symbol by-quote
+  plain-spelt n = rw e (by-whole-spelt n (unit-named n l))
+
+-- SPELLINGS
+
+letters-unquoted : (l : List ℕ) → T (all letter l) → T (all unquoted l)
+unfolding all letter
+letters-unquoted [] t = tt
+letters-unquoted (c ∷ l) t =
+    let w = both (letter c) (all letter l) t in
+    T-and (unquoted c) (all unquoted l) (true→T {b = unquoted c} (rw (differs letter c 39 (w .0) refl))) (letters-unquoted l (w .1))
+
+some-letter : {l : List ℕ} → Letters l → 0 < length l
+some-letter (Letters.letters t u) = omega arith
+
+-- letters in quotes, after a prefix name or nothing
+quoted-spelt : (n : ℕ) (p l : List ℕ) → name-of (prefix-named p) ≡ p → T (all unquoted p) → Letters l
+    → Spelt (p ++ (39 ∷ (l ++ (39 ∷ [])))) (symbol n (p ++ (39 ∷ (l ++ (39 ∷ [])))))
+unfolding symbol by-quote
+quoted-spelt n p l q t d =
+    let a : run unquoted (p ++ (39 ∷ (l ++ (39 ∷ [])))) ≡ p = run-of unquoted p (39 ∷ (l ++ (39 ∷ []))) t (Stops.other refl) in
+    let z : past unquoted (p ++ (39 ∷ (l ++ (39 ∷ [])))) ≡ 39 ∷ (l ++ (39 ∷ [])) = past-of unquoted p (39 ∷ (l ++ (39 ∷ []))) t (Stops.other refl) in
+    let m : run unquoted (l ++ (39 ∷ [])) ≡ l = run-of unquoted l (39 ∷ []) (letters-unquoted l (letters-all d)) (Stops.other refl) in
+    rw (a, z, m) (Spelt.in-quotes (a ∙ sym q) z (some-letter d))
+
+no-name : name-of (prefix-named []) ≡ []
+unfolding symbols-compute
+no-name = refl
+
+spelling-spelt : (n : ℕ) {r : Rules} {l : List ℕ} → SpellingBy r l → Spelt l (symbol n l)
+unfolding past all
+spelling-spelt n (SpellingBy.letters {l = l} d) =
+    plain-spelt (some-letter d) (ap (past unquoted) (sym (append-nil l)) ∙ past-of unquoted l [] (letters-unquoted l (letters-all d)) Stops.end) n
+spelling-spelt n (SpellingBy.percent e) = plain-spelt (omega arith) refl n
+spelling-spelt n (SpellingBy.quoted e (Quoted.quoted {l = l} d)) = quoted-spelt n [] l no-name tt d
+spelling-spelt n (SpellingBy.quoted e (Quoted.prefixed {p = p} {l = l} w d)) =
+    rw (append-assoc p (39 ∷ l) (39 ∷ [])) (quoted-spelt n p l (name-named w) (letters-unquoted p (letters-all (prefix-letters w))) d)
+
+-- DERIVATIONS
+
+data AllSpell : List Part → Type 0 where
+  none-spells : AllSpell []
+  spells : {p : Part} {ps : List Part} → ((n : ℕ) → Spelt (p .spelling) (symbol n (p .spelling))) → AllSpell ps → AllSpell (p ∷ ps)
+
+joined : {ps qs : List Part} → AllSpell ps → AllSpell qs → AllSpell (ps ++ qs)
+joined AllSpell.none-spells es = es
+joined (AllSpell.spells d ds) es = AllSpell.spells d (joined ds es)
+
+turned : {ps : List Part} → AllSpell ps → AllSpell (turned-all ps)
+turned AllSpell.none-spells = AllSpell.none-spells
+turned (AllSpell.spells d ds) = AllSpell.spells d (turned ds)
+
+spell : {r : Rules} {x : Kind} {s t : List ℕ} {ps : List Part} → G r x s t ps → AllSpell ps
+spell (G.unit d x) = AllSpell.spells (λ n. spelling-spelt n d) AllSpell.none-spells
+spell (G.group d) = spell d
+spell (G.first d m) = joined (spell d) (spell m)
+spell (G.under o d m) = joined (turned (spell d)) (spell m)
+spell G.done = AllSpell.none-spells
+spell (G.times o d m) = joined (spell d) (spell m)
+spell (G.over o d m) = joined (turned (spell d)) (spell m)
+spell (G.plain d) = spell d
+spell (G.divided f d i) = joined (spell d) (turned (spell i))
+
+label-spells : {r : Rules} {s : List ℕ} {f : Factor} {ps : List Part} → LabelBy r s f ps → AllSpell ps
+label-spells LabelBy.empty = AllSpell.none-spells
+label-spells (LabelBy.plain u d) = spell d
+label-spells (LabelBy.under f d) = turned (spell d)
+label-spells (LabelBy.factored l f w d) = spell d
+
+-- TERMS
+
+-- a term's spelling is in the label s where the term says, and stands for the term's symbol
+pub record TermSpelt (s : List ℕ) (t : Term) : Type 0 where
+  pub spelling : List ℕ
+  pub there : take (t .size) (drop (t .start) s) ≡ spelling
+  pub sized : t .size ≡ length spelling
+  pub spelt : Spelt spelling (t .symbol)
+
+pub data AllSpelt (s : List ℕ) : List Term → Type 0 where
+  none-spelt : AllSpelt s []
+  all-spelt : {t : Term} {ts : List Term} → TermSpelt s t → AllSpelt s ts → AllSpelt s (t ∷ ts)
+
+terms-spelt : (n : ℕ) (s : List ℕ) {ps : List Part} {us : List Placed} → Values ps us → AllStand s ps → AllSpell ps → AllSpelt s (map (term n (length s)) us)
+unfolding term
+terms-spelt n s Values.no-values AllStand.none d = AllSpelt.none-spelt
+terms-spelt n s (Values.value {p = p} e vs) (AllStand.some w ws) (AllSpell.spells d ds) =
+    AllSpelt.all-spelt (record { spelling = p .spelling; there = stands-there w; sized = refl; spelt = d n }) (terms-spelt n s vs ws ds)
+
+pub reading-spelt : (n : ℕ) (s : List ℕ) → AllSpelt s (reading n s .terms)
+unfolding reading answered refusal reading-of
+reading-spelt n s = go (answer-of n s)
+  where
+    go : Answered n s → AllSpelt s (reading n s .terms)
+    go (Answered.refusing i e d) = rw e AllSpelt.none-spelt
+    go (Answered.accepting v a) =
+        let l = derives-by (a .derived) .2 in
+        rw (a .checks) (terms-spelt n s (valued-values (a .factor) (a .parts) v (a .within)) (label-stands l) (label-spells l))
+
+-- THE PLACE OF THE LETTERS
+
+module _ (p : Option ℕ) (m : List ℕ) (size : ℕ) where
+  pub before-plain : size ≡ length (name-of p) + length m → before-letters p m size ≡ length (name-of p)
+  unfolding before-letters
+  before-plain e = rw (le-ltb (length (name-of p) + length m) size (omega arith)) (omega arith)
+
+  pub before-quoted : size ≡ length (name-of p) + suc (length m + 1) → before-letters p m size ≡ length (name-of p) + 1
+  unfolding before-letters
+  before-quoted e = rw (lt-ltb (length (name-of p) + length m) size (omega arith))
+
+-- bytes of a spelling are bytes of the label
+in-label : (s : List ℕ) (start size b k : ℕ) {l : List ℕ} → take size (drop start s) ≡ l → b + k ≤ size → take k (drop (start + b) s) ≡ take k (drop b l)
+in-label s start size b k e h =
+    rw (← e, drop-take b size (drop start s), take-take k (size - b) (drop b (drop start s)) (omega arith), drop-drop b start s)
+
+module _ (s : List ℕ) (start size : ℕ) {l : List ℕ} (e : take size (drop start s) ≡ l) (q : size ≡ length l) where
+  letters-spelt : (x : Symbol) → Spelt l x → take (length (letters-of x)) (drop (letters-from x start size) s) ≡ letters-of x
+  unfolding letters-of letters-from
+  letters-spelt (known p u) Spelt.is-known = refl
+  letters-spelt (unknown p m) (Spelt.plain w i h) =
+      let z : size ≡ length (name-of p) + length m = q ∙ ap length i ∙ length-append (name-of p) m in
+      rw (before-plain p m size z, in-label s start size (length (name-of p)) (length m) e (omega arith), i, drop-at (name-of p) m (length (name-of p)) refl)
+      (ap (take (length m)) (sym (append-nil m)) ∙ take-at m [] (length m) refl)
+  letters-spelt (unknown p m) (Spelt.in-quotes r w h) =
+      let i : l ≡ name-of p ++ (39 ∷ (m ++ (39 ∷ []))) = run-past unquoted l ∙ rw (r, w) in
+      let z : size ≡ length (name-of p) + suc (length m + 1) = q ∙ ap length i ∙ length-append (name-of p) (39 ∷ (m ++ (39 ∷ []))) ∙ ap (λ (k : ℕ). length (name-of p) + suc k) (length-append m (39 ∷ [])) in
+      let d : drop (length (name-of p) + 1) (name-of p ++ (39 ∷ (m ++ (39 ∷ [])))) ≡ m ++ (39 ∷ []) =
+          rw (← drop-drop 1 (length (name-of p)) (name-of p ++ (39 ∷ (m ++ (39 ∷ [])))), drop-at (name-of p) (39 ∷ (m ++ (39 ∷ []))) (length (name-of p)) refl) in
+      rw (before-quoted p m size z, in-label s start size (length (name-of p) + 1) (length m) e (omega arith), i, d) (take-at m (39 ∷ []) (length m) refl)
+
+-- the letters of every term are at their place
+pub letters-there : (n : ℕ) (s : List ℕ)
+    → map (λ (t : Term). take (letters-size t) (drop (letters-start t) s)) (reading n s .terms) ≡ map (λ (t : Term). letters-of (t .symbol)) (reading n s .terms)
+letters-there n s = go (reading-spelt n s)
+  where
+    go : {ts : List Term} → AllSpelt s ts → map (λ (t : Term). take (letters-size t) (drop (letters-start t) s)) ts ≡ map (λ (t : Term). letters-of (t .symbol)) ts
+    go AllSpelt.none-spelt = refl
+    go (AllSpelt.all-spelt {t = t} d ds) = rw (letters-spelt s (t .start) (t .size) (d .there) (d .sized) (t .symbol) (d .spelt), go ds)

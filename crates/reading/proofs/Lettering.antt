@@ -5,7 +5,7 @@ use native.Mathlib.Decide.{decLt}
 use mathlib.Core.Path.{_≡_, refl, sym, ap, _∙_}
 use mathlib.Core.List.{List, [], _∷_, _++_}
 use mathlib.Core.Option.{Option}
-use lib.ListN.{length, getD, take, drop, length-append}
+use lib.ListN.{length, getD, length-append}
 use Rattle.label.specs.Bytes.{run, past}
 use Rattle.label.specs.Ranges.{between}
 use Rattle.label.specs.Symbols.{unquoted}
@@ -57,7 +57,7 @@ letters-some s t x i w e =
 
 -- WHERE THE LETTERS ARE
 
-module _ (s : List ℕ) (start end first last : ℕ) {l : List ℕ} (p : Option ℕ) where
+module _ (s : List ℕ) (start end first last : ℕ) (p : Option ℕ) where
   abbrev letters : List ℕ
   letters = between s first last
 
@@ -66,7 +66,7 @@ module _ (s : List ℕ) (start end first last : ℕ) {l : List ℕ} (p : Option 
       (first ≡ letters-from (by-code c p letters) start (end - start))
       × (last ≡ letters-from (by-code c p letters) start (end - start) + length (letters-of (by-code c p letters)))
 
-  module _ (e : between s start end ≡ l) (q : end - start ≡ length l) (f : start ≤ end) (g : end ≤ length s) where
+  module _ {l : List ℕ} (e : between s start end ≡ l) (q : end - start ≡ length l) (f : start ≤ end) (g : end ≤ length s) where
     unknown-noted : first ≤ last → last ≤ end → LettersAt s start end first last → Spelt l (by-code 0 p letters) → Noted 0
     unfolding by-code letters-from letters-of
     unknown-noted h k w (Spelt.plain z i o) =

@@ -10,11 +10,13 @@ use mir.Val.{SFits, toZ, ofZ}
 use mir.Facts.{toZ-pos}
 use lib.ListN.{getD}
 use Rattle.label.specs.Ranges.{between}
+use Rattle.label.specs.Letters.{letters-start, letters-size}
 use Rattle.symbols.specs.Views.{place}
 use Rattle.descent.specs.Terms.{lent}
 use Rattle.content.specs.Views.{by-code, symbol-at, term-in}
 use Rattle.content.proofs.Integers.{widened-is}
 use Rattle.label.specs.declared.Tens.{Tens}
+use Rattle.reading.specs.Answers.{LettersNoted}
 use Rattle.record.specs.Record.{flag, code, prefix-code, unit-code, term-fields, head-of}
 use Rattle.record.specs.Recordable.{Sized}
 
@@ -47,17 +49,33 @@ module _ (s x : List ℕ) (i : ℕ) where
 
 -- TERMS
 
-module _ {p : List ℕ} {e : List ℤ} (x : List ℕ) {i : ℕ} (h : Sized (lent p e) i) {u v : ℕ} where
-  pub term-is : u < 2 ^ 8 → v < 2 ^ 8 → u ≡ getD x i 0 → v ≡ getD x (32 + i) 0 → SFits w32 (getD e i (pos 0)) → (s : List ℕ)
-      → toZ w64 u ∷ toZ w64 v ∷ toZ w64 (ofZ w64 (toZ w32 (ofZ w32 (getD e i (pos 0))))) ∷ toZ w64 (getD p i 0) ∷ toZ w64 (getD p (32 + i) 0 - getD p i 0) ∷ []
+module _ {s p : List ℕ} {e : List ℤ} {x : List ℕ} {i : ℕ} (w : LettersNoted s (lent p e) x i) where
+  first-is : getD x (64 + i) 0 ≡ letters-start (term-in s (lent p e) x i)
+  first-is = w .start
+
+  size-is : getD x (96 + i) 0 - getD x (64 + i) 0 ≡ letters-size (term-in s (lent p e) x i)
+  size-is = omega (arith, w .start, w .end)
+
+module _ {p : List ℕ} {e : List ℤ} (x : List ℕ) {i : ℕ} (h : Sized (lent p e) x i) {u v y z : ℕ} where
+  pub term-is : u < 2 ^ 8 → v < 2 ^ 8 → y < 2 ^ 8 → z < 2 ^ 8
+      → u ≡ getD x i 0 → v ≡ getD x (32 + i) 0 → y ≡ getD x (64 + i) 0 → z ≡ getD x (96 + i) 0
+      → SFits w32 (getD e i (pos 0)) → (s : List ℕ) → LettersNoted s (lent p e) x i
+      → toZ w64 u ∷ toZ w64 v ∷ toZ w64 (ofZ w64 (toZ w32 (ofZ w32 (getD e i (pos 0))))) ∷ toZ w64 (getD p i 0) ∷ toZ w64 (getD p (32 + i) 0 - getD p i 0)
+      ∷ toZ w64 y ∷ toZ w64 (z - y) ∷ []
       ≡ term-fields (term-in s (lent p e) x i)
   unfolding term-fields
-  term-is f g q r w s =
+  term-is f g k l q r a b w s c =
       rw (
         held u (omega (arith, f)),
         held v (omega (arith, g)),
+        held y (omega (arith, k)),
+        held (z - y) (omega (arith, l)),
         q,
         r,
+        a,
+        b,
+        size-is c,
+        first-is c,
         widened-is w,
         held (getD p i 0) (omega (arith, h .forward, h .short)),
         held (getD p (32 + i) 0 - getD p i 0) (omega (arith, h .short)),

@@ -1,4 +1,4 @@
--- The parts of a record, one behind the other.
+-- The parts of a record, one after the other.
 use Prim.Native.Nat.{ℕ, zero, suc, _+_, _*_, _-_, _<_, _≤_}
 use native.Mathlib.Omega.{arith}
 use mathlib.Core.Path.{_≡_, refl, sym, ap, _∙_}
@@ -14,6 +14,11 @@ use Rattle.content.proofs.Naming.{terms-length}
 use Rattle.content.proofs.Naming.{terms-more as one-more}
 use Rattle.reading.specs.declared.read.Answer.{Answer}
 use Rattle.reading.specs.Views.{reading-in}
+use Rattle.label.specs.Limits.{most-terms}
+use Rattle.label.specs.Units.{base-count}
+use Rattle.reading.specs.Answers.{LettersNoted}
+use Rattle.record.specs.Recordable.{AllNoted}
+use Rattle.record.specs.Record.{field-size, head-size, term-place, dimensions-place, scale-place, record-size}
 use Rattle.record.specs.Record.{eight, encoded, no-fields, term-fields, terms-fields, empty-fields, sixtieths, scale-fields, head-of, head-fields, fields, record-of}
 
 pub encoded-join : (xs ys : List ℤ) → encoded (xs ++ ys) ≡ encoded xs ++ encoded ys
@@ -28,31 +33,34 @@ unfolding terms-fields
 terms-more [] t = append-nil (term-fields t)
 terms-more (x ∷ ts) t = rw (terms-more ts t) (sym (append-assoc (term-fields x) (terms-fields ts) (term-fields t)))
 
-five : (t : spec.Term) → length (term-fields t) ≡ 5
+seven : (t : spec.Term) → length (term-fields t) ≡ 7
 unfolding term-fields
-five t = refl
+seven t = refl
+
+fewer : {s : List ℕ} {t : Lent} {x : List ℕ} {n : ℕ} → AllNoted s t x (n + 1) → AllNoted s t x n
+fewer w = record { noted = λ i h. w .noted i (omega arith) }
 
 -- the first i terms are written
 pub record TermsPut (b₀ : List ℕ) (t : Lent) (x b : List ℕ) (i : ℕ) : Type 0 where
   pub room : length b ≡ length b₀
-  pub bytes : (s : List ℕ) → take (48 + 40 * i) b ≡ take 48 b₀ ++ encoded (terms-fields (terms-in s t x i))
+  pub bytes : (s : List ℕ) → AllNoted s t x i → take (term-place i) b ≡ take head-size b₀ ++ encoded (terms-fields (terms-in s t x i))
 
 pub terms₀ : (b : List ℕ) (t : Lent) (x : List ℕ) → TermsPut b t x b 0
 unfolding encoded terms-fields terms-in
-terms₀ b t x = record { room = refl; bytes = λ s. sym (append-nil (take 48 b)) }
+terms₀ b t x = record { room = refl; bytes = λ s w. sym (append-nil (take head-size b)) }
 
 pub terms-step : {b₀ : List ℕ} {t : Lent} {x : List ℕ} (b c : List ℕ) (i : ℕ) (f : List ℤ) → TermsPut b₀ t x b i → length c ≡ length b
-    → ((s : List ℕ) → f ≡ term-fields (term-in s t x i))
-    → take (48 + 40 * i + 8 * length f) c ≡ take (48 + 40 * i) b ++ encoded f
+    → length f ≡ 7 → ((s : List ℕ) → LettersNoted s t x i → f ≡ term-fields (term-in s t x i))
+    → take (term-place i + field-size * length f) c ≡ take (term-place i) b ++ encoded f
     → TermsPut b₀ t x c (i + 1)
-terms-step {b₀} {t} {x} b c i f p l q e = record {
+terms-step {b₀} {t} {x} b c i f p l k q e = record {
   room = l ∙ p .room;
-  bytes = λ s.
-      let z : 48 + 40 * (i + 1) ≡ 48 + 40 * i + 8 * length f = omega (arith, ap length (q s), five (term-in s t x i)) in
+  bytes = λ s w.
+      let z : term-place (i + 1) ≡ term-place i + field-size * length f = omega (arith, k) in
       let ts = terms-in s t x i in
       let y = term-in s t x i in
-      rw (z, e, p .bytes s, one-more s t x i, terms-more ts y, encoded-join (terms-fields ts) (term-fields y), ← q s)
-      (append-assoc (take 48 b₀) (encoded (terms-fields ts)) (encoded f));
+      rw (z, e, p .bytes s (fewer w), one-more s t x i, terms-more ts y, encoded-join (terms-fields ts) (term-fields y), ← q s (w .noted i (omega arith)))
+      (append-assoc (take head-size b₀) (encoded (terms-fields ts)) (encoded f));
 }
 
 -- PLACES WITHOUT A TERM
@@ -65,34 +73,34 @@ empty-more (suc n) h = let e : suc n - 1 ≡ n = omega arith in rw e
 -- what is written, and the places still to come
 pub record EmptyPut (b₀ : List ℕ) (count : ℕ) (b : List ℕ) (i : ℕ) : Type 0 where
   pub room : length b ≡ length b₀
-  pub within : i ≤ 32
-  pub bytes : take (48 + 40 * i) b ++ encoded (empty-fields (32 - i)) ≡ take (48 + 40 * count) b₀ ++ encoded (empty-fields (32 - count))
+  pub within : i ≤ most-terms
+  pub bytes : take (term-place i) b ++ encoded (empty-fields (most-terms - i)) ≡ take (term-place count) b₀ ++ encoded (empty-fields (most-terms - count))
 
-pub empty₀ : (b : List ℕ) (count : ℕ) → count ≤ 32 → EmptyPut b count b count
+pub empty₀ : (b : List ℕ) (count : ℕ) → count ≤ most-terms → EmptyPut b count b count
 empty₀ b count h = record { room = refl; within = h; bytes = refl }
 
-pub empty-step : {b₀ : List ℕ} {count : ℕ} (b c : List ℕ) (i : ℕ) → EmptyPut b₀ count b i → i < 32 → length c ≡ length b
-    → take (48 + 40 * i + 8 * 5) c ≡ take (48 + 40 * i) b ++ encoded no-fields
+pub empty-step : {b₀ : List ℕ} {count : ℕ} (b c : List ℕ) (i : ℕ) → EmptyPut b₀ count b i → i < most-terms → length c ≡ length b
+    → take (term-place i + field-size * 7) c ≡ take (term-place i) b ++ encoded no-fields
     → EmptyPut b₀ count c (i + 1)
 empty-step {b₀} {count} b c i p h l e = record {
   room = l ∙ p .room;
   within = omega arith;
   bytes =
-      let z : 48 + 40 * (i + 1) ≡ 48 + 40 * i + 8 * 5 = omega arith in
-      let m : 32 - (i + 1) ≡ 32 - i - 1 = omega arith in
+      let z : term-place (i + 1) ≡ term-place i + field-size * 7 = omega arith in
+      let m : most-terms - (i + 1) ≡ most-terms - i - 1 = omega arith in
       rw (z, m, e)
-      (append-assoc (take (48 + 40 * i) b) (encoded no-fields) (encoded (empty-fields (32 - i - 1)))
-      ∙ ap (λ (xs : List ℕ). take (48 + 40 * i) b ++ xs)
-      (sym (encoded-join no-fields (empty-fields (32 - i - 1))) ∙ ap encoded (sym (empty-more (32 - i) (omega arith))))
+      (append-assoc (take (term-place i) b) (encoded no-fields) (encoded (empty-fields (most-terms - i - 1)))
+      ∙ ap (λ (xs : List ℕ). take (term-place i) b ++ xs)
+      (sym (encoded-join no-fields (empty-fields (most-terms - i - 1))) ∙ ap encoded (sym (empty-more (most-terms - i) (omega arith))))
       ∙ p .bytes);
 }
 
-pub empty-done : {b₀ : List ℕ} {count : ℕ} (b : List ℕ) (i : ℕ) → EmptyPut b₀ count b i → 32 ≤ i
-    → take 1328 b ≡ take (48 + 40 * count) b₀ ++ encoded (empty-fields (32 - count))
+pub empty-done : {b₀ : List ℕ} {count : ℕ} (b : List ℕ) (i : ℕ) → EmptyPut b₀ count b i → most-terms ≤ i
+    → take dimensions-place b ≡ take (term-place count) b₀ ++ encoded (empty-fields (most-terms - count))
 unfolding encoded empty-fields
 empty-done b i p h =
-    let e : i ≡ 32 = omega (arith, p .within) in
-    sym (append-nil (take 1328 b)) ∙ rw e at (p .bytes)
+    let e : i ≡ most-terms = omega (arith, p .within) in
+    sym (append-nil (take dimensions-place b)) ∙ rw e at (p .bytes)
 
 -- THE WHOLE RECORD
 
@@ -100,22 +108,22 @@ to-left : (a b c d e : List ℕ) → a ++ (b ++ (c ++ (d ++ e))) ≡ a ++ b ++ c
 to-left a b c d e = sym (append-assoc a b (c ++ (d ++ e))) ∙ sym (append-assoc (a ++ b) c (d ++ e)) ∙ sym (append-assoc (a ++ b ++ c) d e)
 
 module _ (head ts dimensions scale : List ℤ) (count : ℕ) (b₀ b₁ b₂ b₃ b₄ b₅ : List ℕ) where
-  pub joined-is : length head ≡ 6 → length dimensions ≡ 32 → length scale ≡ 4 → length b₅ ≡ 1616
-      → take (0 + 8 * length head) b₁ ≡ take 0 b₀ ++ encoded head
-      → take (48 + 40 * count) b₂ ≡ take 48 b₁ ++ encoded ts
-      → take 1328 b₃ ≡ take (48 + 40 * count) b₂ ++ encoded (empty-fields (32 - count))
-      → take (1328 + 8 * length dimensions) b₄ ≡ take 1328 b₃ ++ encoded dimensions
-      → take (1584 + 8 * length scale) b₅ ≡ take 1584 b₄ ++ encoded scale
-      → b₅ ≡ encoded (head ++ (ts ++ (empty-fields (32 - count) ++ (dimensions ++ scale))))
+  pub joined-is : length head ≡ 6 → length dimensions ≡ base-count → length scale ≡ 4 → length b₅ ≡ record-size
+      → take (0 + field-size * length head) b₁ ≡ take 0 b₀ ++ encoded head
+      → take (term-place count) b₂ ≡ take head-size b₁ ++ encoded ts
+      → take dimensions-place b₃ ≡ take (term-place count) b₂ ++ encoded (empty-fields (most-terms - count))
+      → take (dimensions-place + field-size * length dimensions) b₄ ≡ take dimensions-place b₃ ++ encoded dimensions
+      → take (scale-place + field-size * length scale) b₅ ≡ take scale-place b₄ ++ encoded scale
+      → b₅ ≡ encoded (head ++ (ts ++ (empty-fields (most-terms - count) ++ (dimensions ++ scale))))
   joined-is h d c l e₁ e₂ e₃ e₄ e₅ =
-      let x₁ : 0 + 8 * length head ≡ 48 = omega (arith, h) in
-      let x₄ : 1328 + 8 * length dimensions ≡ 1584 = omega (arith, d) in
-      let x₅ : 1584 + 8 * length scale ≡ 1616 = omega (arith, c) in
-      let none = empty-fields (32 - count) in
-      let y₁ : take 48 b₁ ≡ encoded head = rw x₁ at e₁ in
-      let y₄ : take 1584 b₄ ≡ take 1328 b₃ ++ encoded dimensions = rw x₄ at e₄ in
-      let y₅ : take 1616 b₅ ≡ take 1584 b₄ ++ encoded scale = rw x₅ at e₅ in
-      sym (take-all 1616 b₅ (omega (arith, l)))
+      let x₁ : 0 + field-size * length head ≡ head-size = omega (arith, h) in
+      let x₄ : dimensions-place + field-size * length dimensions ≡ scale-place = omega (arith, d) in
+      let x₅ : scale-place + field-size * length scale ≡ record-size = omega (arith, c) in
+      let none = empty-fields (most-terms - count) in
+      let y₁ : take head-size b₁ ≡ encoded head = rw x₁ at e₁ in
+      let y₄ : take scale-place b₄ ≡ take dimensions-place b₃ ++ encoded dimensions = rw x₄ at e₄ in
+      let y₅ : take record-size b₅ ≡ take scale-place b₄ ++ encoded scale = rw x₅ at e₅ in
+      sym (take-all record-size b₅ (omega (arith, l)))
       ∙ rw (y₅, y₄, e₃, e₂, y₁)
       (sym
       (encoded-join head (ts ++ (none ++ (dimensions ++ scale)))
@@ -141,6 +149,6 @@ same-scale (a ∷ b ∷ c ∷ d ∷ e ∷ es) h = absurd (omega arith)
 -- the numbers of a reading, from its parts
 pub fields-are : (s : List ℕ) (t : Lent) (x : List ℕ) (ds cs : List ℤ) (a : Answer) {h : List ℤ} → length cs ≡ 4
     → h ≡ head-of (a .number) (a .k) (a .known) (a .lawful) (a .recommended) (count t)
-    → encoded (h ++ (terms-fields (terms-in s t x (count t)) ++ (empty-fields (32 - count t) ++ (ds ++ cs)))) ≡ record-of (reading-in s t x ds cs a)
+    → encoded (h ++ (terms-fields (terms-in s t x (count t)) ++ (empty-fields (most-terms - count t) ++ (ds ++ cs)))) ≡ record-of (reading-in s t x ds cs a)
 unfolding reading-in head-fields fields record-of
 fields-are s t x ds cs a e q = rw (q, terms-length s t x (count t), same-sixtieths ds, same-scale cs e)

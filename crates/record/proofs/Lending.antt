@@ -6,7 +6,7 @@ use mathlib.Core.Path.{_≡_, _∙_}
 use mathlib.Core.List.{List, _++_}
 use lib.ListN.{length, take, drop, drop-of-length-le}
 use lib.Seq.{length-take-le, take-all, take-length}
-use Rattle.record.specs.Record.{written-over}
+use Rattle.record.specs.Record.{written-over, record-size}
 
 module _ (xs b : List ℕ) where
   pub front-length : length b ≤ length xs → length (take (length b) xs) ≡ length b
@@ -17,6 +17,6 @@ module _ (xs b : List ℕ) where
   unfolding written-over
   over-short h e = e ∙ rw (take-length (take (length b) xs), front-length h, drop-of-length-le b (le-refl (length b)), drop-of-length-le b h)
 
-  pub over-part : {c : List ℕ} → length xs ≡ 1616 → 1616 ≤ length b → c ≡ xs ++ drop 1616 b → c ≡ written-over xs b
+  pub over-part : {c : List ℕ} → length xs ≡ record-size → record-size ≤ length b → c ≡ xs ++ drop record-size b → c ≡ written-over xs b
   unfolding written-over
   over-part h g e = e ∙ rw (h, take-all (length b) xs (omega (arith, h, g)))

@@ -1,6 +1,8 @@
+pub mod Codes
 pub mod Fielding
 pub mod Joining
 pub mod Lending
 pub mod ReadingBack
 pub mod Signed
+pub mod Telling
 pub mod Writing

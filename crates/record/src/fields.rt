@@ -4,6 +4,7 @@ use reading::read::Answer;
 ghost use Prim.Native.Nat.{ℕ, _≤_, _<_};
 ghost use mathlib.Core.Path.{_≡_};
 ghost use mathlib.Core.List.{List};
+ghost use lib.ListN.{length};
 ghost use Rattle.label.specs.Limits.{most-terms};
 ghost use Rattle.descent.specs.Terms.{lent};
 ghost use Rattle.content.specs.Views.{term-in};
@@ -28,6 +29,7 @@ pub fn term_fields(
     i: usize,
 ) -> [i64; 7]
     requires { ⌜ (i < most-terms) × Sized (lent (now places) (now exponents)) (now names) i ⌝ }
+    ensures { λ r. ⌜ length r ≡ 7 ⌝ }
     ensures { λ r. ⌜ ((s : List ℕ) → LettersNoted s (lent (now (places .entry)) (now (exponents .entry))) (now (names .entry)) i
         → r ≡ spec.term-fields (term-in s (lent (now (places .entry)) (now (exponents .entry))) (now (names .entry)) i)) ⌝ }
 {

@@ -2,6 +2,7 @@
 use native.Mathlib.Omega.{arith}
 use mathlib.Core.Path.{refl, sym, _∙_}
 use lib.Seq.{length-take-le}
+use Rattle.record.specs.Record.{record-size}
 use Rattle.record.proofs.Lending.{front-length, over-short, over-part}
 use borrow.Author.Needs.{needs}
 use Rattle.record.proofs.buffer.write_record.Statement.{statement}
@@ -22,19 +23,19 @@ write-record-spec =
     omega (arith, front-length (put .last .0) (c .before .before .before .before .before .before .before .args .buffer .now) (omega (arith, put .kept .0))))
     (λ c. search needs)
     (λ c.
-    λ s.
+    λ s w.
     let put = c .before .before .before .before .before .before .put-record in
     let start = c .before .before .before .before .before .before .before .before .before .before in
-    rw (← put .ensures s) (over-short (put .last .0) (start .args .buffer .now) (omega (arith, put .kept .0)) (c .before .before .copy .ensures .1)))
+    rw (← put .ensures s w) (over-short (put .last .0) (start .args .buffer .now) (omega (arith, put .kept .0)) (c .before .before .copy .ensures .1)))
     (λ c. search needs)
-    (λ c. sym (length-take-le 1616 (c .before .before .before .args .buffer .now) (omega arith)))
+    (λ c. sym (length-take-le record-size (c .before .before .before .args .buffer .now) (omega arith)))
     (λ c κs.
     let start = c .before .before .before in
-    (length-take-le 1616 (start .args .buffer .now) (omega arith), start .pre))
+    (length-take-le record-size (start .args .buffer .now) (omega arith), start .pre))
     (λ c. search needs)
     (λ c.
-    λ s.
+    λ s w.
     let put = c .before .before .put-record2 in
     let start = c .before .before .before .before .before .before in
     let b = start .args .buffer .now in
-    rw (← put .ensures s) (over-part (put .last .0) b (put .kept .0 ∙ length-take-le 1616 b (omega arith)) (omega arith) refl)))
+    rw (← put .ensures s w) (over-part (put .last .0) b (put .kept .0 ∙ length-take-le record-size b (omega arith)) (omega arith) refl)))

@@ -1,9 +1,9 @@
--- `record::record::put_record` meets its contract: the parts are written one behind the other.
+-- `record::record::put_record` meets its contract: the parts are written one after the other.
 use mathlib.Core.Path.{_≡_, ap, _∙_}
 use lib.ListN.{length, getD}
 use Rattle.descent.specs.Terms.{lent}
 use Rattle.content.specs.Views.{terms-in}
-use Rattle.record.specs.Record.{terms-fields}
+use Rattle.record.specs.Record.{terms-fields, record-size}
 use Rattle.record.proofs.Joining.{joined-is, fields-are}
 use borrow.Author.Needs.{needs}
 use Rattle.record.proofs.record.put_record.Statement.{statement}
@@ -23,7 +23,7 @@ put-record-spec =
     (λ c κs. search needs)
     (λ c. search needs)
     (λ c.
-    λ s.
+    λ s w.
     let put₅ = c .before .before .put-all3 in
     let rest₅ = c .before .before .before .before .before in
     let put₄ = rest₅ .before .before .put-all2 in
@@ -36,9 +36,9 @@ put-record-spec =
     let head = rest₂ .before .before .before .before .before .head-fields in
     let start = rest₂ .before .before .before .before .before .before .before .before in
     let x = start .args in
-    let room : length (put₅ .last .0) ≡ 1616 = put₅ .kept .0 ∙ put₄ .kept .0 ∙ put₃ .kept .0 ∙ put₂ .kept .0 ∙ put₁ .kept .0 ∙ start .pre .0 in
+    let room : length (put₅ .last .0) ≡ record-size = put₅ .kept .0 ∙ put₄ .kept .0 ∙ put₃ .kept .0 ∙ put₂ .kept .0 ∙ put₁ .kept .0 ∙ start .pre .0 in
     joined-is
     (head .result) (terms-fields (terms-in s (lent (x .places .now) (x .exponents .now)) (x .names .now) (getD (x .places .now) 64 0))) (x .bases .now) (x .primes .now) (getD (x .places .now) 64 0) (x .b .now) (put₁ .last .0) (put₂ .last .0) (put₃ .last .0) (put₄ .last .0) (put₅ .last .0)
     (ap length (head .ensures)) (start .pre .1 .dimensions) (start .pre .1 .scale) room
-    (put₁ .ensures) (put₂ .ensures s) (put₃ .ensures) (put₄ .ensures) (put₅ .ensures)
+    (put₁ .ensures) (put₂ .ensures s w) (put₃ .ensures) (put₄ .ensures) (put₅ .ensures)
     ∙ fields-are s (lent (x .places .now) (x .exponents .now)) (x .names .now) (x .bases .now) (x .primes .now) (x .a) (start .pre .1 .scale) (head .ensures)))

@@ -35,9 +35,9 @@ put-terms-spec =
     let put = c .before .before .put-all in
     let fields = c .before .before .before .before .before .term-fields in
     let turn = c .before .before .before .before .before .before .before in
-    (omega arith, terms-step (turn .loop .b) (put .last .0) (turn .loop .i) (fields .result) (turn .loop .inv .1) (put .kept .0) (fields .ensures) (put .ensures)))
+    (omega arith, terms-step (turn .loop .b) (put .last .0) (turn .loop .i) (fields .result) (turn .loop .inv .1) (put .kept .0) (fields .ensures .0) (fields .ensures .1) (put .ensures)))
     (λ c. search needs)
     (λ c.
-    λ s.
+    λ s w.
     let e : c .before .loop .i ≡ c .before .before .before .args .count = omega arith in
-    rw (← e) (c .before .loop .inv .1 .bytes s)))
+    rw (← e) (c .before .loop .inv .1 .bytes s (rw e w))))

@@ -37,21 +37,27 @@ static void print_spelling(const uint8_t *label, const uint8_t *record, unsigned
     printf("%.*s", (int)thalinguze_term_length(record, i), (const char *)label + thalinguze_term_start(record, i));
 }
 
+/* the letters of an unknown unit */
+static void print_letters(const uint8_t *label, const uint8_t *record, unsigned i)
+{
+    printf("%.*s", (int)thalinguze_term_letters_length(record, i), (const char *)label + thalinguze_term_letters_start(record, i));
+}
+
 static void print_term(const uint8_t *label, const uint8_t *record, unsigned i)
 {
     const struct prefix_word *prefix = &prefix_words[thalinguze_term_prefix(record, i)];
     int unit = thalinguze_term_unit(record, i);
-    size_t length;
-    const uint8_t *letters = thalinguze_term_letters(record, i, label, &length);
     printf("Term %u, ", i + 1);
     print_spelling(label, record, i);
     printf(": ");
-    if (unit != THALINGUZE_UNIT_UNKNOWN)
+    if (unit != THALINGUZE_UNIT_UNKNOWN) {
         printf("%s%s%s", prefix->word, strchr(unit_words[unit].word, ' ') && *prefix->word ? " " : "", unit_words[unit].word);
-    else if (*prefix->word)
-        printf("prefix %s and unknown unit %.*s", prefix->word, (int)length, (const char *)letters);
-    else
-        printf("unknown unit %.*s", (int)length, (const char *)letters);
+    } else {
+        if (*prefix->word)
+            printf("prefix %s and ", prefix->word);
+        printf("unknown unit ");
+        print_letters(label, record, i);
+    }
     print_power(thalinguze_term_exponent(record, i));
     printf(", %s the line\n", thalinguze_term_exponent(record, i) < 0 ? "below" : "above");
 }
@@ -65,9 +71,9 @@ static void read_term(uint32_t notation, const uint8_t *label, const uint8_t *re
 
 static void print_unknown(uint32_t notation, const uint8_t *label, const uint8_t *record, unsigned i)
 {
-    size_t length;
-    const uint8_t *letters = thalinguze_term_letters(record, i, label, &length);
-    printf(": %.*s is no unit that %s knows", (int)length, (const char *)letters, notation_words[notation].name);
+    printf(": ");
+    print_letters(label, record, i);
+    printf(" is no unit that %s knows", notation_words[notation].name);
 }
 
 /* a verdict, and where it is no, each term to blame */

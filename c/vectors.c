@@ -59,8 +59,8 @@ static bool hex_bytes(char *text, size_t *size)
 static void print_term(const uint8_t *label, const uint8_t *record, unsigned i)
 {
     int prefix = thalinguze_term_prefix(record, i), unit = thalinguze_term_unit(record, i);
-    size_t start = thalinguze_term_start(record, i), length = thalinguze_term_length(record, i), letter_count;
-    const uint8_t *letters = thalinguze_term_letters(record, i, label, &letter_count);
+    size_t start = thalinguze_term_start(record, i), length = thalinguze_term_length(record, i);
+    size_t first = thalinguze_term_letters_start(record, i), count = thalinguze_term_letters_length(record, i);
     printf("%s%zu+%zu:", i ? " " : "", start, length);
     if (prefix != THALINGUZE_PREFIX_NONE)
         printf("ten^%d:", prefix_words[prefix].power);
@@ -69,7 +69,8 @@ static void print_term(const uint8_t *label, const uint8_t *record, unsigned i)
     if (unit != THALINGUZE_UNIT_UNKNOWN)
         printf("%s:", unit_words[unit].symbol);
     else
-        printf("?%.*s%s:", (int)letter_count, (const char *)letters, memchr(label + start, '\'', length) ? "'" : "");
+        /* a quoted spelling goes on after the letters */
+        printf("?%.*s%s:", (int)count, (const char *)label + first, first + count < start + length ? "'" : "");
     print_sixtieths(thalinguze_term_exponent(record, i));
 }
 

@@ -69,11 +69,11 @@ enum {
 
 /*
  * The record: THALINGUZE_FIELDS fields of 8 bytes, each a signed integer in two's complement, least significant byte first.
- * Field f stands at the bytes from 8 * f. Fields that a label does not need are 0.
+ * Field f is at the bytes from 8 * f. Fields that a label does not need are 0.
  */
 #define THALINGUZE_FIELD_SIZE 8
-#define THALINGUZE_FIELDS 202
-#define THALINGUZE_RECORD_SIZE (THALINGUZE_FIELDS * THALINGUZE_FIELD_SIZE) /* 1616 bytes */
+#define THALINGUZE_FIELDS 266
+#define THALINGUZE_RECORD_SIZE (THALINGUZE_FIELDS * THALINGUZE_FIELD_SIZE) /* 2128 bytes */
 
 #define THALINGUZE_BASES 32  /* bases that dimensions count */
 #define THALINGUZE_PRIMES 4  /* primes that a scale counts: 2, 3, 5, 487 */
@@ -86,19 +86,21 @@ enum {
     THALINGUZE_FIELD_LAWFUL = 3,       /* 1 if every prefix on a known unit is lawful there, else 0 */
     THALINGUZE_FIELD_RECOMMENDED = 4,  /* 1 if every unit is known and recommended, else 0 */
     THALINGUZE_FIELD_COUNT = 5,        /* how many terms the label has, 0 to 32 */
-    THALINGUZE_FIELD_TERMS = 6,        /* term i, counted from 0, has five fields from THALINGUZE_FIELD_TERMS + 5 * i */
-    THALINGUZE_FIELD_DIMENSIONS = 166, /* one field for each base: its exponent in the label, in sixtieths */
-    THALINGUZE_FIELD_SCALE = 198       /* the exponents of 2, 3, 5 and 487 in the label's scale, in sixtieths */
+    THALINGUZE_FIELD_TERMS = 6,        /* term i, counted from 0, has seven fields from THALINGUZE_FIELD_TERMS + 7 * i */
+    THALINGUZE_FIELD_DIMENSIONS = 230, /* one field for each base: its exponent in the label, in sixtieths */
+    THALINGUZE_FIELD_SCALE = 262       /* the exponents of 2, 3, 5 and 487 in the label's scale, in sixtieths */
 };
 
 /* The fields of a term, counted from its first. */
 enum {
-    THALINGUZE_TERM_PREFIX = 0,   /* THALINGUZE_PREFIX_... */
-    THALINGUZE_TERM_UNIT = 1,     /* THALINGUZE_UNIT_... */
-    THALINGUZE_TERM_EXPONENT = 2, /* in sixtieths, never 0; negative below the line */
-    THALINGUZE_TERM_START = 3,    /* how many bytes of the label come before the term's spelling */
-    THALINGUZE_TERM_LENGTH = 4,   /* how many bytes the spelling has, prefix and quotes included */
-    THALINGUZE_TERM_FIELDS = 5
+    THALINGUZE_TERM_PREFIX = 0,         /* THALINGUZE_PREFIX_... */
+    THALINGUZE_TERM_UNIT = 1,           /* THALINGUZE_UNIT_... */
+    THALINGUZE_TERM_EXPONENT = 2,       /* in sixtieths, never 0; negative below the line */
+    THALINGUZE_TERM_START = 3,          /* how many bytes of the label come before the term's spelling */
+    THALINGUZE_TERM_LENGTH = 4,         /* how many bytes the spelling has, prefix and quotes included */
+    THALINGUZE_TERM_LETTERS_START = 5,  /* how many bytes of the label come before an unknown unit's letters; 0 for a known unit */
+    THALINGUZE_TERM_LETTERS_LENGTH = 6, /* how many letters an unknown unit has, prefix and quotes left out; 0 for a known unit */
+    THALINGUZE_TERM_FIELDS = 7
 };
 
 /* Prefix codes. */
@@ -263,7 +265,7 @@ uint32_t thalinguze_read(uint32_t notation, const uint8_t *label, size_t label_s
  * label; i must be below THALINGUZE_MAX_TERMS. A term from thalinguze_count(record) on has all fields 0.
  */
 
-/* Field number `field`, 0 to 201. */
+/* Field number `field`, 0 to THALINGUZE_FIELDS - 1. */
 static inline int64_t thalinguze_field(const uint8_t *record, unsigned field)
 {
     const uint8_t *at = record + (size_t)field * THALINGUZE_FIELD_SIZE;
@@ -339,24 +341,17 @@ static inline size_t thalinguze_term_length(const uint8_t *record, unsigned i)
 }
 
 /*
- * The letters of term i without its prefix and quotes. For an unknown unit these are the unit's letters: "urlong" in FITS "furlong",
- * which is read as femto and urlong; "furlong" in VOUnits "'furlong'". `label` is the label that was read. Returns where the letters
- * start in it and stores how many there are in *length. They are not terminated by 0.
+ * Where the letters of the unknown unit of term i start in the label, and how many there are, without prefix and quotes: "urlong" in FITS
+ * "furlong", which is read as femto and urlong; "furlong" in VOUnits "'furlong'". Both are 0 for a known unit.
  */
-static inline const uint8_t *thalinguze_term_letters(const uint8_t *record, unsigned i, const uint8_t *label, size_t *length)
+static inline size_t thalinguze_term_letters_start(const uint8_t *record, unsigned i)
 {
-    const uint8_t *letters = label + thalinguze_term_start(record, i);
-    size_t size = thalinguze_term_length(record, i);
-    int prefix = thalinguze_term_prefix(record, i);
-    size_t before = prefix == THALINGUZE_PREFIX_NONE ? 0 : prefix == THALINGUZE_PREFIX_DECA ? 2 : 1;
-    letters += before;
-    size -= before;
-    if (size >= 2 && letters[0] == '\'') {
-        letters += 1;
-        size -= 2;
-    }
-    *length = size;
-    return letters;
+    return (size_t)thalinguze_term_field(record, i, THALINGUZE_TERM_LETTERS_START);
+}
+
+static inline size_t thalinguze_term_letters_length(const uint8_t *record, unsigned i)
+{
+    return (size_t)thalinguze_term_field(record, i, THALINGUZE_TERM_LETTERS_LENGTH);
 }
 
 /* The exponent of a base, THALINGUZE_BASE_METRE .., in the label's dimensions, in sixtieths. */

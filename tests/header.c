@@ -219,30 +219,36 @@ static int literal(const uint8_t *record, size_t field)
     return at[7] & 128 ? -(int)((at[0] | at[1] << 8) ^ 0xffff) - 1 : at[0] | at[1] << 8;
 }
 
+/* the layout as decision D40 has it, without the header's constants */
+enum { SIZE = 2128, FIELDS = 266, DIMENSIONS = 230, SCALE = 262 };
+
 /* every field at its place, and no byte past the record */
 static void check_layout(void)
 {
     const char *label = "10**-3 kfoo(-3/2) m2/lyr";
     /* number, k, known, lawful, recommended, count; then three terms */
-    static const int expected[] = {0, -3, 0, 1, 0, 3, 3, 0, -90, 7, 4, 0, 1, 120, 18, 1, 0, 51, -60, 21, 3};
-    uint8_t record[1616 + 64];
+    static const int expected[] = {0, -3, 0, 1, 0, 3, 3, 0, -90, 7, 4, 8, 3, 0, 1, 120, 18, 1, 0, 0, 0, 51, -60, 21, 3, 0, 0};
+    uint8_t record[SIZE + 64];
     memset(record, 0xAA, sizeof record);
     check(thalinguze_read(1, (const uint8_t *)label, strlen(label), record, sizeof record) == 0, "the label of the layout", label);
-    for (size_t f = 0; f < 202; f++) {
-        int value = f < 21 ? expected[f] : f == 166 ? 120 : f == 166 + 23 ? -60 : f == 198 || f == 200 ? -450 : 0;
+    for (size_t f = 0; f < FIELDS; f++) {
+        int value = f < sizeof expected / sizeof expected[0] ? expected[f]
+            : f == DIMENSIONS ? 120 : f == DIMENSIONS + 23 ? -60 : f == SCALE || f == SCALE + 2 ? -450 : 0;
         check(literal(record, f) == value && thalinguze_field(record, (unsigned)f) == value, "field of the layout", label);
     }
-    for (size_t i = 1616; i < sizeof record; i++)
+    for (size_t i = SIZE; i < sizeof record; i++)
         check(record[i] == 0xAA, "a byte past the record", "changed");
-    check(THALINGUZE_RECORD_SIZE == 1616 && THALINGUZE_FIELDS == 202 && THALINGUZE_FIELD_SIZE == 8, "sizes", "1616, 202, 8");
+    check(THALINGUZE_RECORD_SIZE == SIZE && THALINGUZE_FIELDS == FIELDS && THALINGUZE_FIELD_SIZE == 8, "sizes", "2128, 266, 8");
     check(thalinguze_field(record, THALINGUZE_FIELD_NUMBER) == 0 && THALINGUZE_FIELD_NUMBER == 0, "number", label);
     check(thalinguze_k(record) == -3, "k", label);
     check(!thalinguze_known(record) && thalinguze_lawful(record) && !thalinguze_recommended(record), "verdicts", label);
-    check(THALINGUZE_FIELD_KNOWN == 2 && THALINGUZE_FIELD_RECOMMENDED == 4 && THALINGUZE_TERM_FIELDS == 5, "field constants", "2, 4, 5");
+    check(THALINGUZE_FIELD_KNOWN == 2 && THALINGUZE_FIELD_RECOMMENDED == 4 && THALINGUZE_TERM_FIELDS == 7, "field constants", "2, 4, 7");
     check(thalinguze_count(record) == 3, "count", label);
     check(thalinguze_term_prefix(record, 0) == 3 && thalinguze_term_unit(record, 2) == 51, "prefix and unit", label);
     check(thalinguze_term_exponent(record, 0) == -90 && thalinguze_term_exponent(record, 1) == 120, "exponents", label);
     check(thalinguze_term_start(record, 1) == 18 && thalinguze_term_length(record, 2) == 3, "start and length", label);
+    check(thalinguze_term_letters_start(record, 0) == 8 && thalinguze_term_letters_length(record, 0) == 3, "letters of an unknown unit", label);
+    check(thalinguze_term_letters_start(record, 2) == 0 && thalinguze_term_letters_length(record, 2) == 0, "no letters of a known unit", label);
     check(thalinguze_dimension(record, 0) == 120 && thalinguze_dimension(record, 23) == -60, "dimensions", label);
     check(thalinguze_scale(record, 0) == -450 && thalinguze_scale(record, 1) == 0 && thalinguze_scale(record, 2) == -450, "scale", label);
     read_text(1, "yr", record);
@@ -270,13 +276,12 @@ static void check_letters(void)
     static const struct {
         uint32_t notation;
         const char *label, *letters;
-    } samples[] = {{1, "furlong", "urlong"}, {4, "'furlong'", "furlong"}, {4, "da'm'", "m"}, {4, "k'xyz'", "xyz"}, {2, "dax", "x"}, {3, "%", "%"}};
+    } samples[] = {{1, "furlong", "urlong"}, {4, "'furlong'", "furlong"}, {4, "da'm'", "m"}, {4, "k'xyz'", "xyz"}, {2, "dax", "x"}, {4, "da'da'", "da"}, {1, "kg", ""}, {3, "%", ""}};
     for (size_t i = 0; i < sizeof samples / sizeof samples[0]; i++) {
         uint8_t record[THALINGUZE_RECORD_SIZE];
-        size_t length;
         read_text(samples[i].notation, samples[i].label, record);
-        const uint8_t *letters = thalinguze_term_letters(record, 0, (const uint8_t *)samples[i].label, &length);
-        check(length == strlen(samples[i].letters) && memcmp(letters, samples[i].letters, length) == 0, "letters", samples[i].label);
+        size_t start = thalinguze_term_letters_start(record, 0), length = thalinguze_term_letters_length(record, 0);
+        check(length == strlen(samples[i].letters) && memcmp(samples[i].label + start, samples[i].letters, length) == 0, "letters", samples[i].label);
     }
 }
 

@@ -14,7 +14,7 @@ use Rattle.reading.specs.Views.{reading-in}
 use Rattle.reading.specs.Answers.{Reads}
 use Rattle.reading.proofs.Answering.{dimensions-room}
 use Rattle.record.specs.Record.{record-of, written-over, buffer-after}
-use Rattle.record.specs.Recordable.{Recordable}
+use Rattle.record.specs.Recordable.{AllNoted, Recordable}
 
 module _ {n : ℕ} {s : List ℕ} {t : Lent} {x : List ℕ} {ds cs : List ℤ} {r : Answer} (w : Reads n s t x ds cs r) where
   -- a refusal changes no byte
@@ -23,16 +23,19 @@ module _ {n : ℕ} {s : List ℕ} {t : Lent} {x : List ℕ} {ds cs : List ℤ} {
   refused b h = rw (← w .number, ne-eqb (r .number) 0 h)
 
   module _ (zero : r .number ≡ 0) where
-    pub recordable : Recordable t ds cs
+    pub recordable : Recordable t x ds cs
     recordable = let v = w .within zero in record {
       few = v .few;
-      sized = λ i h. let a = all-in-at t (count t) i (v .inside) h in record { forward = a .forward; short = omega (arith, a .within, v .short) };
+      sized = λ i h.
+          let a = all-in-at t (count t) i (v .inside) h in
+          let l = w .noted zero i h in
+          record { forward = a .forward; short = omega (arith, a .within, v .short); letters = omega (arith, l .start, l .end) };
       dimensions = dimensions-room w zero;
       scale = w .primes zero;
     }
 
     -- an accepted reading writes its record
-    pub accepted : (b : List ℕ) {c : List ℕ} → ((s : List ℕ) → c ≡ written-over (record-of (reading-in s t x ds cs r)) b)
+    pub accepted : (b : List ℕ) {c : List ℕ} → ((s : List ℕ) → AllNoted s t x (count t) → c ≡ written-over (record-of (reading-in s t x ds cs r)) b)
         → c ≡ buffer-after (reading n s) b
     unfolding buffer-after
-    accepted b q = q s ∙ rw (w .is zero, ← w .number, eq-eqb (r .number) 0 zero)
+    accepted b q = q s (record { noted = w .noted zero }) ∙ rw (w .is zero, ← w .number, eq-eqb (r .number) 0 zero)

@@ -257,7 +257,7 @@ module _ (s : List ℕ) (start size : ℕ) {l : List ℕ} (e : take size (drop s
       let i : l ≡ name-of p ++ (39 ∷ (m ++ (39 ∷ []))) = run-past unquoted l ∙ rw (r, w) in
       let z : size ≡ length (name-of p) + suc (length m + 1) = q ∙ ap length i ∙ length-append (name-of p) (39 ∷ (m ++ (39 ∷ []))) ∙ ap (λ (k : ℕ). length (name-of p) + suc k) (length-append m (39 ∷ [])) in
       let d : drop (length (name-of p) + 1) (name-of p ++ (39 ∷ (m ++ (39 ∷ [])))) ≡ m ++ (39 ∷ []) =
-          rw (← drop-drop 1 (length (name-of p)) (name-of p ++ (39 ∷ (m ++ (39 ∷ [])))), drop-at (name-of p) (39 ∷ (m ++ (39 ∷ []))) (length (name-of p)) refl) in
+      rw (← drop-drop 1 (length (name-of p)) (name-of p ++ (39 ∷ (m ++ (39 ∷ [])))), drop-at (name-of p) (39 ∷ (m ++ (39 ∷ []))) (length (name-of p)) refl) in
       rw (before-quoted p m size z, in-label s start size (length (name-of p) + 1) (length m) e (omega arith), i, d) (take-at m (39 ∷ []) (length m) refl)
 
 -- the letters of every term are at their place

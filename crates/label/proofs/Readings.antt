@@ -91,8 +91,8 @@ number-refused n s i l = (back (answer-of n s), (λ d. refused-number d))
 -- ACCEPTANCE
 
 -- an accepted label's values are those of the acceptance
-same-values : {n : ℕ} {s : List ℕ} {x : Split} {v : Valued} (w : Accepts n s x) → Accepted n s v → w .values ≡ v
-same-values {v = v} w a =
+accepts-these : {n : ℕ} {s : List ℕ} {x : Split} {v : Valued} (w : Accepts n s x) → Accepted n s v → w .values ≡ v
+accepts-these {v = v} w a =
     let q = same-derivation (w .derived) (a .derived) in
     let e : some (w .values) ≡ some v = sym (w .within) ∙ ap (λ (f : Factor). valued f (w .parts)) (q .0) ∙ ap (λ (ps : List Part). valued (a .factor) ps) (q .1) ∙ a .within in
     cc
@@ -102,7 +102,7 @@ accepts-values {n} {s} {x} w = go (answer-of n s)
   where
     go : Answered n s → (v : Valued) × Accepted n s v × (x ≡ split-of v)
     go (Answered.refusing i e d) = absurd (w .none-applies i (d .holds))
-    go (Answered.accepting v a) = (v, a, w .is ∙ ap split-of (same-values w a))
+    go (Answered.accepting v a) = (v, a, w .is ∙ ap split-of (accepts-these w a))
 
 pub accepts-terms : {n : ℕ} {s : List ℕ} {x : Split} (w : Accepts n s x) → reading n s .terms ≡ map (term n (length s)) (w .values .units)
 unfolding reading-of
@@ -111,7 +111,7 @@ accepts-terms {n} {s} w = go (answer-of n s)
     go : Answered n s → reading n s .terms ≡ map (term n (length s)) (w .values .units)
     go (Answered.refusing i e d) = absurd (w .none-applies i (d .holds))
     go (Answered.accepting v a) =
-        ap (λ (r : Reading). r .terms) (accepted-reading a) ∙ ap (λ (y : Valued). map (term n (length s)) (y .units)) (sym (same-values w a))
+        ap (λ (r : Reading). r .terms) (accepted-reading a) ∙ ap (λ (y : Valued). map (term n (length s)) (y .units)) (sym (accepts-these w a))
 
 accepted-accepts : {n : ℕ} {s : List ℕ} {v : Valued} → Accepted n s v → Accepts n s (split-of v)
 accepted-accepts {v = v} a = record { none-applies = a .clear; factor = a .factor; parts = a .parts; derived = a .derived; values = v; within = a .within; is = refl }
@@ -153,10 +153,15 @@ accepted-gives {n} {s} w =
     let u = accepts-values w in
     rw (u .2) (gives (u .1) (reading n s) (accepted-reading (u .1)))
 
--- both accept: the splits are equal
+-- both accept: the values are equal, and so are the splits
+pub same-values : {n m : ℕ} {s : List ℕ} {v w : Valued} → Accepted n s v → Accepted m s w → v ≡ w
+same-values {v = v} {w = w} a b =
+    let q = same-derivation (a .derived) (b .derived) in
+    let e : some v ≡ some w = sym (a .within) ∙ ap (λ (f : Factor). valued f (a .parts)) (q .0) ∙ ap (λ (ps : List Part). valued (b .factor) ps) (q .1) ∙ b .within in
+    cc
+
 pub same-split : {n m : ℕ} {s : List ℕ} {x y : Split} → Accepts n s x → Accepts m s y → x ≡ y
 same-split a b =
-    let q = same-derivation (a .derived) (b .derived) in
-    let e : some (a .values) ≡ some (b .values) = sym (a .within) ∙ ap (λ (f : Factor). valued f (a .parts)) (q .0) ∙ ap (λ (ps : List Part). valued (b .factor) ps) (q .1) ∙ b .within in
-    let z : a .values ≡ b .values = cc in
-    a .is ∙ ap split-of z ∙ sym (b .is)
+    let v = accepts-values a in
+    let w = accepts-values b in
+    v .2 ∙ ap split-of (same-values (v .1) (w .1)) ∙ sym (w .2)

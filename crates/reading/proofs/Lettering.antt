@@ -79,7 +79,7 @@ module _ (s : List ℕ) (start end first last : ℕ) (p : Option ℕ) where
         let m : length letters ≡ last - first = length-between s first last (omega arith) in
         let i : l ≡ name-of p ++ (39 ∷ (letters ++ (39 ∷ []))) = run-past unquoted l ∙ rw (r, z) in
         let size : end - start ≡ length (name-of p) + suc (length letters + 1) =
-            q ∙ ap length i ∙ length-append (name-of p) (39 ∷ (letters ++ (39 ∷ []))) ∙ ap (λ (j : ℕ). length (name-of p) + suc j) (length-append letters (39 ∷ [])) in
+        q ∙ ap length i ∙ length-append (name-of p) (39 ∷ (letters ++ (39 ∷ []))) ∙ ap (λ (j : ℕ). length (name-of p) + suc j) (length-append letters (39 ∷ [])) in
         let b = before-quoted p letters (end - start) size in
         let y : first ≡ start + suc (length (run unquoted (between s start end))) = w .quoted 39 (letters ++ (39 ∷ [])) (ap (past unquoted) e ∙ z) in
         let n : length (run unquoted (between s start end)) ≡ length (name-of p) = ap (λ (u : List ℕ). length (run unquoted u)) e ∙ ap length r in
@@ -96,6 +96,6 @@ pub noted-at : (s : List ℕ) (t : Lent) (x : List ℕ) (i : ℕ) → getD (t .p
 unfolding symbol-at
 noted-at s t x i f g u v w =
     let r = letters-noted s (getD (t .places) i 0) (getD (t .places) (32 + i) 0) (getD x (64 + i) 0) (getD x (96 + i) 0) (place (getD x i 0))
-        (w .there) (w .sized) f g (getD x (32 + i) 0)
-        (λ e. let o = u e in (o .forward, (o .upto, o .there))) (λ h. let o = v h in (o .start, o .end)) (w .spelt) in
+    (w .there) (w .sized) f g (getD x (32 + i) 0)
+    (λ e. let o = u e in (o .forward, (o .upto, o .there))) (λ h. let o = v h in (o .start, o .end)) (w .spelt) in
     record { start = r .0; end = r .1 }

@@ -18,7 +18,7 @@ use Rattle.label.specs.Limits.{most-terms}
 use Rattle.label.specs.Units.{base-count}
 use Rattle.reading.specs.Answers.{LettersNoted}
 use Rattle.record.specs.Recordable.{AllNoted}
-use Rattle.record.specs.Record.{field-size, head-size, term-place, dimensions-place, scale-place, record-size}
+use Rattle.record.specs.Record.{field-size, fields-in-head, fields-in-term, fields-in-scale, head-size, term-place, dimensions-place, scale-place, record-size}
 use Rattle.record.specs.Record.{eight, encoded, no-fields, term-fields, terms-fields, empty-fields, sixtieths, scale-fields, head-of, head-fields, fields, record-of}
 
 pub encoded-join : (xs ys : List ℤ) → encoded (xs ++ ys) ≡ encoded xs ++ encoded ys
@@ -33,10 +33,6 @@ unfolding terms-fields
 terms-more [] t = append-nil (term-fields t)
 terms-more (x ∷ ts) t = rw (terms-more ts t) (sym (append-assoc (term-fields x) (terms-fields ts) (term-fields t)))
 
-seven : (t : spec.Term) → length (term-fields t) ≡ 7
-unfolding term-fields
-seven t = refl
-
 fewer : {s : List ℕ} {t : Lent} {x : List ℕ} {n : ℕ} → AllNoted s t x (n + 1) → AllNoted s t x n
 fewer w = record { noted = λ i h. w .noted i (omega arith) }
 
@@ -50,7 +46,7 @@ unfolding encoded terms-fields terms-in
 terms₀ b t x = record { room = refl; bytes = λ s w. sym (append-nil (take head-size b)) }
 
 pub terms-step : {b₀ : List ℕ} {t : Lent} {x : List ℕ} (b c : List ℕ) (i : ℕ) (f : List ℤ) → TermsPut b₀ t x b i → length c ≡ length b
-    → length f ≡ 7 → ((s : List ℕ) → LettersNoted s t x i → f ≡ term-fields (term-in s t x i))
+    → length f ≡ fields-in-term → ((s : List ℕ) → LettersNoted s t x i → f ≡ term-fields (term-in s t x i))
     → take (term-place i + field-size * length f) c ≡ take (term-place i) b ++ encoded f
     → TermsPut b₀ t x c (i + 1)
 terms-step {b₀} {t} {x} b c i f p l k q e = record {
@@ -80,13 +76,13 @@ pub empty₀ : (b : List ℕ) (count : ℕ) → count ≤ most-terms → EmptyPu
 empty₀ b count h = record { room = refl; within = h; bytes = refl }
 
 pub empty-step : {b₀ : List ℕ} {count : ℕ} (b c : List ℕ) (i : ℕ) → EmptyPut b₀ count b i → i < most-terms → length c ≡ length b
-    → take (term-place i + field-size * 7) c ≡ take (term-place i) b ++ encoded no-fields
+    → take (term-place i + field-size * fields-in-term) c ≡ take (term-place i) b ++ encoded no-fields
     → EmptyPut b₀ count c (i + 1)
 empty-step {b₀} {count} b c i p h l e = record {
   room = l ∙ p .room;
   within = omega arith;
   bytes =
-      let z : term-place (i + 1) ≡ term-place i + field-size * 7 = omega arith in
+      let z : term-place (i + 1) ≡ term-place i + field-size * fields-in-term = omega arith in
       let m : most-terms - (i + 1) ≡ most-terms - i - 1 = omega arith in
       rw (z, m, e)
       (append-assoc (take (term-place i) b) (encoded no-fields) (encoded (empty-fields (most-terms - i - 1)))
@@ -108,7 +104,7 @@ to-left : (a b c d e : List ℕ) → a ++ (b ++ (c ++ (d ++ e))) ≡ a ++ b ++ c
 to-left a b c d e = sym (append-assoc a b (c ++ (d ++ e))) ∙ sym (append-assoc (a ++ b) c (d ++ e)) ∙ sym (append-assoc (a ++ b ++ c) d e)
 
 module _ (head ts dimensions scale : List ℤ) (count : ℕ) (b₀ b₁ b₂ b₃ b₄ b₅ : List ℕ) where
-  pub joined-is : length head ≡ 6 → length dimensions ≡ base-count → length scale ≡ 4 → length b₅ ≡ record-size
+  pub joined-is : length head ≡ fields-in-head → length dimensions ≡ base-count → length scale ≡ fields-in-scale → length b₅ ≡ record-size
       → take (0 + field-size * length head) b₁ ≡ take 0 b₀ ++ encoded head
       → take (term-place count) b₂ ≡ take head-size b₁ ++ encoded ts
       → take dimensions-place b₃ ≡ take (term-place count) b₂ ++ encoded (empty-fields (most-terms - count))

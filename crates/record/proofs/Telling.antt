@@ -4,19 +4,17 @@ use native.Mathlib.Omega.{arith}
 use mathlib.Core.Path.{_≡_, refl, sym, ap, _∙_}
 use mathlib.Core.Bool.{Bool, true, false}
 use mathlib.Core.List.{List, [], _∷_, _++_, map, append-assoc}
-use mathlib.Core.Option.{some}
 use lib.IntN.{ℤ, pos, natAbs}
 use lib.ListN.{length, take, drop}
 use lib.Seq.{take-at, drop-at}
 use Rattle.label.specs.declared.Tens.{Tens}
-use Rattle.label.specs.Lexical.{Factor, Part}
-use Rattle.label.specs.Split.{Placed, Valued, valued, Refused}
+use Rattle.label.specs.Split.{Placed, Refused}
 use Rattle.label.specs.Symbols.{symbol}
-use Rattle.label.specs.Reading.{Term, term, Reading, every, is-known, is-lawful, is-recommended, dimensions-of, scale-of, reading-of, answered, reading}
-use Rattle.label.proofs.Derivations.{same-derivation}
+use Rattle.label.specs.Reading.{Term, term, Reading, every, is-known, is-lawful, is-recommended, dimensions-of, scale-of, reading-of, reading}
 use Rattle.label.proofs.Refusals.{bounds}
-use Rattle.label.proofs.Readings.{Accepted, Answered, answer-of, number-refused}
-use Rattle.record.specs.Record.{digits, eight, value, signed, encoded, flag, prefix-code, unit-code, term-fields, terms-fields, head-fields, fields, record-of, Telling}
+use Rattle.label.proofs.Lettering.{letters-there}
+use Rattle.label.proofs.Readings.{Accepted, Answered, answer-of, accepted-reading, number-refused, same-values}
+use Rattle.record.specs.Record.{digits, eight, value, signed, encoded, flag, prefix-code, unit-code, term-fields, terms-fields, head-fields, fields, record-of, Telling, LettersThere}
 use Rattle.record.proofs.ReadingBack.{read-back}
 use Rattle.record.proofs.Codes.{Small, symbol-small, symbols-same}
 
@@ -29,9 +27,10 @@ eight-length z = refl
 -- the bytes of the first number, and those of the numbers after it
 encoded-first : (x y : ℤ) (xs ys : List ℤ) → encoded (x ∷ xs) ≡ encoded (y ∷ ys) → (eight x ≡ eight y) × (encoded xs ≡ encoded ys)
 unfolding encoded
-encoded-first x y xs ys e =
-    (sym (take-at (eight x) (encoded xs) 8 (eight-length x)) ∙ ap (take 8) e ∙ take-at (eight y) (encoded ys) 8 (eight-length y),
-    sym (drop-at (eight x) (encoded xs) 8 (eight-length x)) ∙ ap (drop 8) e ∙ drop-at (eight y) (encoded ys) 8 (eight-length y))
+encoded-first x y xs ys e = (
+  sym (take-at (eight x) (encoded xs) 8 (eight-length x)) ∙ ap (take 8) e ∙ take-at (eight y) (encoded ys) 8 (eight-length y),
+  sym (drop-at (eight x) (encoded xs) 8 (eight-length x)) ∙ ap (drop 8) e ∙ drop-at (eight y) (encoded ys) 8 (eight-length y),
+)
 
 same-number : (a b : ℕ) → a < 2 ^ 63 → b < 2 ^ 63 → eight (pos a) ≡ eight (pos b) → a ≡ b
 same-number a b h g e =
@@ -53,8 +52,8 @@ module _ (n m b : ℕ) where
       let x = symbol-small n (u .spelling) in
       let y = symbol-small m (u .spelling) in
       rw (symbols-same n m (u .spelling)
-        (same-number _ _ (omega (arith, x .prefix)) (omega (arith, y .prefix)) p)
-        (same-number _ _ (omega (arith, x .unit)) (omega (arith, y .unit)) q))
+      (same-number _ _ (omega (arith, x .prefix)) (omega (arith, y .prefix)) p)
+      (same-number _ _ (omega (arith, x .unit)) (omega (arith, y .unit)) q))
 
   -- the two numbers of a term that are not the same in all notations, and what comes after the term
   first-term : (t u : Term) (xs ys : List ℤ) → encoded (term-fields t ++ xs) ≡ encoded (term-fields u ++ ys)
@@ -128,17 +127,6 @@ same-reading n m b k us e =
     ∙ ap (made k (map (term m b) us)) (w .0)
     ∙ sym (reading-made m k (map (term m b) us))
 
--- two notations that accept a label give it the same values
-same-values : {n m : ℕ} {s : List ℕ} {v w : Valued} → Accepted n s v → Accepted m s w → v ≡ w
-same-values {v = v} {w = w} a b =
-    let q = same-derivation (a .derived) (b .derived) in
-    let e : some v ≡ some w = sym (a .within) ∙ ap (λ (f : Factor). valued f (a .parts)) (q .0) ∙ ap (λ (ps : List Part). valued (b .factor) ps) (q .1) ∙ b .within in
-    cc
-
-accepted-reading : {n : ℕ} {s : List ℕ} {v : Valued} → Accepted n s v → reading n s ≡ reading-of n (v .k) (map (term n (length s)) (v .units))
-unfolding reading answered
-accepted-reading a = rw (a .checks)
-
 pub telling : Telling
 telling n m s a b e = go (answer-of n s) (answer-of m s)
   where
@@ -152,3 +140,6 @@ telling n m s a b e = go (answer-of n s) (answer-of m s)
         let p = accepted-reading x in
         let q : reading m s ≡ reading-of m (v .k) (map (term m (length s)) (v .units)) = rw (same-values x y) (accepted-reading y) in
         p ∙ same-reading n m (length s) (v .k) (v .units) (sym (ap record-of p) ∙ e ∙ ap record-of q) ∙ sym q
+
+pub letters-are-there : LettersThere
+letters-are-there = letters-there

@@ -15,7 +15,7 @@ use Rattle.label.specs.Limits.{most-terms}
 use Rattle.label.specs.Symbols.{Symbol, known, unknown}
 use Rattle.label.specs.Units.{base-count}
 use Rattle.label.specs.Reading.{Term, Scale, Reading, reading}
-use Rattle.label.specs.Letters.{letters-start, letters-size}
+use Rattle.label.specs.Letters.{letters-start, letters-of, letters-size}
 
 -- A NUMBER IN EIGHT BYTES
 
@@ -122,19 +122,32 @@ Telling =
     (n m : ℕ) (s : List ℕ) → reading n s .number ≡ 0 → reading m s .number ≡ 0 → record-of (reading n s) ≡ record-of (reading m s)
     → reading n s ≡ reading m s
 
+-- and of the letters of unknown units: the label has them where the record says
+abbrev pub LettersThere : Type 0
+LettersThere =
+    (n : ℕ) (s : List ℕ)
+    → map (λ (t : Term). take (letters-size t) (drop (letters-start t) s)) (reading n s .terms) ≡ map (λ (t : Term). letters-of (t .symbol)) (reading n s .terms)
+
 -- PLACES IN THE RECORD, in bytes
 
--- a number has eight bytes
+-- how many bytes a number has, and how many numbers there are before the terms, in a term and in the scale
 abbrev pub field-size : ℕ
 field-size = 8
 
--- six numbers come before the terms
-abbrev pub head-size : ℕ
-head-size = 6 * field-size
+abbrev pub fields-in-head : ℕ
+fields-in-head = 6
 
--- a term has seven
+abbrev pub fields-in-term : ℕ
+fields-in-term = 7
+
+abbrev pub fields-in-scale : ℕ
+fields-in-scale = 4
+
+abbrev pub head-size : ℕ
+head-size = field-size * fields-in-head
+
 abbrev pub term-size : ℕ
-term-size = 7 * field-size
+term-size = field-size * fields-in-term
 
 -- where term i is
 abbrev pub term-place : ℕ → ℕ
@@ -146,9 +159,8 @@ dimensions-place = term-place most-terms
 abbrev pub scale-place : ℕ
 scale-place = dimensions-place + field-size * base-count
 
--- the scale has four numbers
 abbrev pub record-size : ℕ
-record-size = scale-place + field-size * 4
+record-size = scale-place + field-size * fields-in-scale
 
 -- THE LENT BUFFER
 

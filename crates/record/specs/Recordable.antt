@@ -5,8 +5,10 @@ use mathlib.Core.List.{List}
 use lib.IntN.{ℤ}
 use lib.ListN.{length, getD}
 use Rattle.label.specs.Limits.{most-bytes, most-terms}
+use Rattle.label.specs.Units.{base-count}
 use Rattle.descent.specs.Terms.{Lent, count}
 use Rattle.reading.specs.Answers.{LettersNoted}
+use Rattle.record.specs.Record.{fields-in-scale}
 
 -- the spelling of term i ends after its start, in a label of at most 255 bytes, and so do its letters
 pub record Sized (t : Lent) (x : List ℕ) (i : ℕ) : Type 0 where
@@ -21,5 +23,5 @@ pub record AllNoted (s : List ℕ) (t : Lent) (x : List ℕ) (n : ℕ) : Type 0 
 pub record Recordable (t : Lent) (x : List ℕ) (ds cs : List ℤ) : Type 0 where
   pub few : count t ≤ most-terms
   pub sized : (i : ℕ) → i < count t → Sized t x i
-  pub dimensions : length ds ≡ 32
-  pub scale : length cs ≡ 4
+  pub dimensions : length ds ≡ base-count
+  pub scale : length cs ≡ fields-in-scale

@@ -12,6 +12,11 @@ ghost use Rattle.reading.specs.Answers.{LettersNoted};
 ghost use Rattle.record.specs.Record as spec;
 ghost use Rattle.record.specs.Recordable.{Sized};
 
+// How many numbers there are before the terms, and how many a term has.
+pub const HEAD_FIELDS: usize = 6;
+
+pub const TERM_FIELDS: usize = 7;
+
 fn flag(b: bool) -> i64
     ensures { λ r. ⌜ r ≡ spec.flag b ⌝ }
 {
@@ -27,9 +32,9 @@ pub fn term_fields(
     exponents: &[i32; 32],
     names: &[u8; 128],
     i: usize,
-) -> [i64; 7]
+) -> [i64; TERM_FIELDS]
     requires { ⌜ (i < most-terms) × Sized (lent (now places) (now exponents)) (now names) i ⌝ }
-    ensures { λ r. ⌜ length r ≡ 7 ⌝ }
+    ensures { λ r. ⌜ length r ≡ spec.fields-in-term ⌝ }
     ensures { λ r. ⌜ ((s : List ℕ) → LettersNoted s (lent (now (places .entry)) (now (exponents .entry))) (now (names .entry)) i
         → r ≡ spec.term-fields (term-in s (lent (now (places .entry)) (now (exponents .entry))) (now (names .entry)) i)) ⌝ }
 {
@@ -51,7 +56,7 @@ pub fn term_fields(
 }
 
 // The numbers before the terms.
-pub fn head_fields(a: Answer, count: usize) -> [i64; 6]
+pub fn head_fields(a: Answer, count: usize) -> [i64; HEAD_FIELDS]
     requires { ⌜ count ≤ most-terms ⌝ }
     ensures { λ r. ⌜ r ≡ spec.head-of (a .number) (a .k) (a .known) (a .lawful) (a .recommended) count ⌝ }
 {

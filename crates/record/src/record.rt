@@ -1,4 +1,6 @@
 // The record of a reading.
+use crate::fields::HEAD_FIELDS;
+use crate::fields::TERM_FIELDS;
 use crate::fields::head_fields;
 use crate::fields::term_fields;
 use crate::numbers::put_all;
@@ -14,19 +16,24 @@ ghost use Rattle.reading.specs.Views.{reading-in};
 ghost use Rattle.record.specs.Record.{encoded, terms-fields, empty-fields, record-of, head-size, term-place, dimensions-place, record-size};
 ghost use Rattle.record.specs.Recordable.{Sized, AllNoted, Recordable};
 
-// Places in the record, in bytes: term 0 comes after six numbers, a term has seven, and after 32 of them come 32 numbers for the bases and
-// four for the primes.
-const HEAD_SIZE: usize = 48;
-
-const TERM_SIZE: usize = 56;
-
-const DIMENSIONS_PLACE: usize = 1840;
-
-const SCALE_PLACE: usize = 2096;
-
-pub const RECORD_SIZE: usize = 2128;
+const FIELD_SIZE: usize = 8;
 
 const MOST_TERMS: usize = 32;
+
+const BASES: usize = 32;
+
+const PRIMES: usize = 4;
+
+// Places in the record, in bytes.
+const HEAD_SIZE: usize = FIELD_SIZE * HEAD_FIELDS;
+
+const TERM_SIZE: usize = FIELD_SIZE * TERM_FIELDS;
+
+const DIMENSIONS_PLACE: usize = HEAD_SIZE + TERM_SIZE * MOST_TERMS;
+
+const SCALE_PLACE: usize = DIMENSIONS_PLACE + FIELD_SIZE * BASES;
+
+pub const RECORD_SIZE: usize = SCALE_PLACE + FIELD_SIZE * PRIMES;
 
 // Writes the first `count` terms.
 fn put_terms(
@@ -55,7 +62,7 @@ fn put_no_terms(b: &mut [u8], count: usize)
     requires { ⌜ (count ≤ most-terms) × (dimensions-place ≤ length (now b)) ⌝ }
     ensures { λ _. ⌜ take dimensions-place (now (b .exit)) ≡ take (term-place count) (now (b .entry)) ++ encoded (empty-fields (most-terms - count)) ⌝ }
 {
-    let none = [0; 7];
+    let none = [0; TERM_FIELDS];
     let mut i = count;
     while i < MOST_TERMS {
         put_all(b, HEAD_SIZE + TERM_SIZE * i, &none);

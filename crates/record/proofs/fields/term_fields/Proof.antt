@@ -44,6 +44,8 @@ term-fields-spec =
     (λ c.
     let letters = c .before .before in
     let codes = letters .before .before .before .before in
-    let start = codes .before in
-    (refl, term-is (start .args .names .now) (start .pre .1) (omega arith) (omega arith) (omega arith) (omega arith)
-    (codes .number-at .ensures) (letters .before .before .before .number-at2 .ensures) (letters .number-at3 .ensures) (c .before .number-at4 .ensures) (exponent-fits c))))
+    let start = codes .before in (
+      refl,
+      term-is (start .args .names .now) (start .pre .1) (omega arith) (omega arith) (omega arith) (omega arith)
+          (codes .number-at .ensures) (letters .before .before .before .number-at2 .ensures) (letters .number-at3 .ensures) (c .before .number-at4 .ensures) (exponent-fits c),
+    )))

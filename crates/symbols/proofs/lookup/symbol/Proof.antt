@@ -18,8 +18,8 @@ returns c = (
   (
     c .quoted-symbol .ensures .1 .0,
     λ e.
-    letters-quoted (c .before .before .before .before .before .before .before .before .before .before .pre .1 .1 .1)
-    (c .before .before .first-quote .ensures) (c .before .if1 .taken) _ (c .quoted-symbol .ensures .1 .1),
+        letters-quoted (c .before .before .before .before .before .before .before .before .before .before .pre .1 .1 .1)
+        (c .before .before .first-quote .ensures) (c .before .if1 .taken) _ (c .quoted-symbol .ensures .1 .1),
   ),
 )
 
@@ -34,8 +34,8 @@ returns-2 c = (
   (
     c .unquoted-symbol .ensures .1 .0,
     λ e.
-    letters-plain (c .before .before .before .before .before .before .before .before .before .before .pre .1 .1 .1)
-    (c .before .before .first-quote .ensures) (c .before .if1 .left) _ (c .unquoted-symbol .ensures .1 .1 .last e),
+        letters-plain (c .before .before .before .before .before .before .before .before .before .before .pre .1 .1 .1)
+        (c .before .before .first-quote .ensures) (c .before .if1 .left) _ (c .unquoted-symbol .ensures .1 .1 .last e),
   ),
 )
 

@@ -5,7 +5,8 @@ Each notation has a grammar of its own, written as its paragraph is. A recognise
 that a grammar gives a text: each rule, at each place, gives the set of all (end, meaning), and no longest match is taken anywhere.
 A text with two meanings in one notation is an error.
 
-Reads lines with a notation number and bytes in hexadecimal, and prints each with its reading, as `thalinguze read --vectors` does."""
+Reads lines with a notation number and bytes in hexadecimal, and prints each with its reading, as `thalinguze read --vectors` does.
+With the argument `symbols` it prints the lines of vectors/symbols.tsv instead."""
 import re
 import sys
 from fractions import Fraction
@@ -352,7 +353,23 @@ def read(notation, data):
     return '%d k=0 nnn place=0 [] {} 0/0/0/0' % number
 
 
+def spellings(notation):
+    """Every unit's name of any notation, and every name that this notation knows after each prefix; each spelling once."""
+    everywhere = sorted(set().union(*NAMES.values()))
+    prefixed = [prefix + name for name in sorted(NAMES[notation] - {'%'}) for prefix in PREFIXES]
+    return list(dict.fromkeys(everywhere + prefixed))
+
+
+def print_symbols():
+    for notation in GRAMMARS:
+        for spelling in spellings(notation):
+            data = spelling.encode('ascii')
+            print(notation, data.hex(), read(notation, data))
+
+
 def main():
+    if sys.argv[1:] == ['symbols']:
+        return print_symbols()
     for line in sys.stdin:
         notation, hexadecimal = line.split()
         data = b'' if hexadecimal == '-' else bytes.fromhex(hexadecimal)

@@ -5,9 +5,10 @@ count=${1:-5000}
 out=build/tests/independent
 mkdir -p "$out"
 if ! command -v python3 >/dev/null; then
-    echo 'not compared with the second reading: python3 is not installed'
-    exit 0
+    echo 'the second reading needs python3, which is not installed'
+    exit 1
 fi
+python3 tests/independent.py symbols | cmp - vectors/symbols.tsv || { echo 'vectors/symbols.tsv is not what independent.py symbols prints'; exit 1; }
 { cut -d' ' -f1,2 vectors/readings.tsv; build/tests/print_labels "$count"; } >"$out/labels"
 build/thalinguze read --vectors <"$out/labels" >"$out/command"
 python3 tests/independent.py <"$out/labels" >"$out/second"

@@ -1,6 +1,6 @@
 # make: the library and the command, in build/. make run: what kg/m.s means in each notation; NOTATION=cds LABEL='km/h' for another.
 # make test: every program of tests/. make compare COUNT=100000: random labels against the second reading of tests/independent.py.
-# make speed: how long reading takes. make clean: removes build/.
+# make bench: how long reading takes and how much stack, beside other readers; see docs/PERFORMANCE.md. make clean: removes build/.
 NOTATION = fits ogip cds vou
 export LABEL = kg/m.s
 COUNT = 100000
@@ -32,8 +32,8 @@ test: all $(TESTS)
 compare: all build/tests/print_labels
 	@tests/independent.sh $(COUNT)
 
-speed: build/tests/speed
-	@build/tests/speed
+bench: $(LIBRARY)
+	@bench/run.sh
 
 clean:
 	rm -rf build
@@ -53,7 +53,7 @@ build/%.o: c/%.c $(HEADERS)
 build/thalinguze: $(PARTS) $(LIBRARY)
 	$(CC) -o $@ $^
 
-build/tests/%: tests/%.c tests/labels.h tests/painted.h $(HEADERS) $(LIBRARY)
+build/tests/%: tests/%.c tests/labels.h tests/painted.h tests/reader.h $(HEADERS) $(LIBRARY)
 	@mkdir -p build/tests
 	$(CC) $(CFLAGS) -o $@ $(filter %.c,$^) $(LIBRARY)
 
@@ -65,4 +65,4 @@ build/tests/guard-plain: tests/guard.c tests/labels.h $(HEADERS) $(LIBRARY)
 	@mkdir -p build/tests
 	$(CC) $(CFLAGS) -g -o $@ $< $(LIBRARY)
 
-.PHONY: all run test compare speed clean
+.PHONY: all run test compare bench clean

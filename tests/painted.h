@@ -3,16 +3,12 @@
 #define PAINTED_H
 
 #include <pthread.h>
-#include <stdint.h>
 #include <stdio.h>
 #include <stdlib.h>
-#include <string.h>
+#include "reader.h"
 
 enum { STACK_SIZE = 2 * 1024 * 1024, STACK_WORDS = STACK_SIZE / 8, ROOM_FOR_RECORD = 8192 };
 #define PAINT UINT64_C(0xa5c3a5c3a5c3a5c3)
-
-/* the form of thalinguze_read */
-typedef uint32_t reader(uint32_t notation, const uint8_t *label, size_t label_size, uint8_t *record, size_t record_size);
 
 struct call {
     reader *read;

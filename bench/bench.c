@@ -16,7 +16,8 @@ static reader *const read_before = before_read;
 static reader *const read_before = NULL;
 #endif
 
-static const char *const files[NOTATIONS + 1] = {NULL, "bench/labels-fits.txt", "bench/labels-ogip.txt", "bench/labels-cds.txt", "bench/labels-vou.txt"};
+static const char *const files[NOTATIONS + 1] = {NULL, "bench/labels-fits.txt", "bench/labels-ogip.txt", "bench/labels-cds.txt",
+                                                 "bench/labels-vou.txt"};
 static const char *const notation_names[NOTATIONS + 1] = {NULL, "FITS", "OGIP", "CDS", "VOUnits"};
 
 struct text {
@@ -202,8 +203,10 @@ static void print_growth(const char *what, unsigned number, uint8_t made[NOTATIO
         one.texts[0] = (struct text){made[notation], sizes[notation]};
         time_readers(readers, ns, &one, 400);
         printf(" %.0f |", ns[0]);
-        size_t use = stack_use(thalinguze_read, notation, made[notation], sizes[notation]);
-        size_t before = read_before ? stack_use(read_before, notation, made[notation], sizes[notation]) : 0;
+        struct call call = {thalinguze_read, notation, made[notation], sizes[notation], sizeof record};
+        size_t use = stack_use(call);
+        call.read = read_before;
+        size_t before = read_before ? stack_use(call) : 0;
         most = use > most ? use : most;
         most_before = before > most_before ? before : most_before;
     }

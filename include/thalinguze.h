@@ -24,7 +24,7 @@
  *     gcc -I include example.c build/libthalinguze.a
  *
  * The library allocates nothing, keeps nothing between calls and may be called from several threads at once. A call needs at most
- * 48 KB (49,152 bytes) of stack, for any notation number and any bytes; tests/stack.c measures it.
+ * 48 KB (49,152 bytes) of stack, for any notation number and any bytes. That is measured by tests/stack.c, not proved.
  * Usable from C11 and from C++11.
  */
 #ifndef THALINGUZE_H

@@ -1,5 +1,6 @@
 #!/bin/sh
 # Reads COUNT random labels with the command and with the second reading of independent.py, which knows nothing of it, and compares.
+# vectors/symbols.tsv must be what the second reading says of its labels.
 set -eu
 count=${1:-5000}
 out=build/tests/independent

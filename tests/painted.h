@@ -14,22 +14,23 @@ struct call {
     reader *read;
     uint32_t notation;
     const uint8_t *label;
-    size_t size;
+    size_t size, record_size;
 };
 
 static _Alignas(4096) uint64_t painted_stack[STACK_WORDS];
 static size_t unpainted; /* words from here on may have changed */
+static uintptr_t called_from;
 static uint8_t painted_record[ROOM_FOR_RECORD];
 
 static void *make_call(void *of)
 {
     const struct call *c = of;
-    c->read(c->notation, c->label, c->size, painted_record, sizeof painted_record);
+    called_from = (uintptr_t)__builtin_frame_address(0);
+    c->read(c->notation, c->label, c->size, painted_record, c->record_size);
     return NULL;
 }
 
-/* bytes from the deepest one that changed to the stack's end, the thread's own bytes counted in */
-static size_t whole_stack_use(struct call *c)
+static void run_on_painted_stack(struct call *c)
 {
     pthread_attr_t attributes;
     pthread_t thread;
@@ -41,35 +42,19 @@ static size_t whole_stack_use(struct call *c)
         exit(2);
     }
     pthread_attr_destroy(&attributes);
+}
+
+/* Bytes from the caller's frame to the deepest one that changed. The caller's own few bytes are counted in, and so is what the thread's
+   end takes where that is more; what is above the caller's frame is not counted. */
+static size_t stack_use(struct call c)
+{
+    make_call(&c); /* so that no function is bound while the call is measured */
+    run_on_painted_stack(&c);
     size_t deepest = 0;
     while (deepest < STACK_WORDS && painted_stack[deepest] == PAINT)
         deepest++;
     unpainted = deepest;
-    return STACK_SIZE - deepest * 8;
-}
-
-static uint32_t read_nothing(uint32_t notation, const uint8_t *label, size_t label_size, uint8_t *record, size_t record_size)
-{
-    (void)notation, (void)label, (void)label_size, (void)record, (void)record_size;
-    return 0;
-}
-
-/* what a thread takes that calls a function that does nothing */
-static size_t empty_stack_use(void)
-{
-    struct call c = {read_nothing, 0, NULL, 0};
-    return whole_stack_use(&c);
-}
-
-/* what the call alone takes. The same call was made before on the caller's stack, so that no function is bound while it is measured. */
-static size_t stack_use(reader *read, uint32_t notation, const uint8_t *label, size_t size)
-{
-    static size_t empty;
-    if (empty == 0)
-        empty = empty_stack_use();
-    struct call c = {read, notation, label, size};
-    make_call(&c);
-    return whole_stack_use(&c) - empty;
+    return called_from - (uintptr_t)&painted_stack[deepest];
 }
 
 #endif

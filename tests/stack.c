@@ -1,5 +1,5 @@
 /* How much stack a call takes at most: stack [LIMIT] [COUNT]. Reads labels of repeated parts, as deep and as long as 255 bytes allow,
-   under the notation numbers 0 to 5, and COUNT random labels. The call's own bytes are counted, without those of the thread. */
+   under the notation numbers 0 to 5, and COUNT random labels. Bytes are counted from the caller's frame on. */
 #define _POSIX_C_SOURCE 200809L
 #include "labels.h"
 #include "painted.h"
@@ -43,9 +43,11 @@ struct worst {
 static struct worst worst;
 static unsigned long calls;
 
+/* with room for the whole record, and with less */
 static void measure(uint32_t notation, const uint8_t *label, size_t size)
 {
-    size_t use = stack_use(thalinguze_read, notation, label, size);
+    size_t record_size = calls % 2 ? calls % THALINGUZE_RECORD_SIZE : ROOM_FOR_RECORD;
+    size_t use = stack_use((struct call){thalinguze_read, notation, label, size, record_size});
     calls++;
     if (use <= worst.use)
         return;
@@ -68,8 +70,10 @@ static void measure_shape(const struct shape *shape, unsigned times)
     size = add(label, size, shape->core);
     for (unsigned i = 0; i < times; i++)
         size = add(label, size, shape->closing);
-    for (uint32_t notation = 0; notation <= 5; notation++)
+    for (uint32_t notation = 0; notation <= 5; notation++) {
         measure(notation, label, size);
+        measure(notation, label, size);
+    }
 }
 
 static void print_worst(size_t limit)

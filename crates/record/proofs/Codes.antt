@@ -1,5 +1,5 @@
--- The codes of prefixes and units are small, and with them a symbol is known.
-use Prim.Native.Nat.{ℕ, suc, _+_, _≤_}
+-- The codes of prefixes and units fit a byte, and a spelling with the same codes in two notations has the same symbol there.
+use Prim.Native.Nat.{ℕ, suc, _+_, _≤_, _<_, _^_}
 use native.Mathlib.Omega.{arith}
 use mathlib.Core.Path.{_≡_, refl, sym, ap, _∙_}
 use mathlib.Core.Bool.{Bool, true, false}
@@ -15,12 +15,11 @@ use Rattle.symbols.specs.Views.{with-rest, prefix-cut, behind, unit-cut}
 use Rattle.symbols.proofs.SymbolLaws.{chosen, by-cut-is}
 use Rattle.record.specs.Record.{code, prefix-code, unit-code}
 
--- THE CODES ARE SMALL
+-- CODES FIT A BYTE
 
--- no code is above a thousand
 pub record Small (x : Symbol) : Type 0 where
-  pub prefix : prefix-code x ≤ 1000
-  pub unit : unit-code x ≤ 1000
+  pub prefix : prefix-code x < 2 ^ 8
+  pub unit : unit-code x < 2 ^ 8
 
 placed-small : (i : ℕ) (l : List ℕ) (ps : List Prefix) → code (placed i l ps) ≤ i + length ps
 unfolding placed
@@ -41,31 +40,31 @@ row-small n l i (u ∷ us) = go (has-name n l (u .names)) (row-small n l (suc i)
     go true h = omega arith
     go false h = omega arith
 
-prefix-small : (l : List ℕ) → code (prefix-named l) ≤ 1000
+prefix-small : (l : List ℕ) → code (prefix-named l) < 2 ^ 8
 unfolding prefix-named prefixes
 prefix-small l = omega (arith, placed-small 0 l prefixes)
 
-unit-small : (n : ℕ) (l : List ℕ) → code (unit-named n l) ≤ 1000
+unit-small : (n : ℕ) (l : List ℕ) → code (unit-named n l) < 2 ^ 8
 unfolding unit-named units
 unit-small n l = omega (arith, row-small n l 0 units)
 
-prefix-cut-small : (k : ℕ) (l : List ℕ) → code (prefix-cut k l) ≤ 1000
+prefix-cut-small : (k : ℕ) (l : List ℕ) → code (prefix-cut k l) < 2 ^ 8
 unfolding prefix-cut
 prefix-cut-small k l = go (prefix-named (take k l)) (prefix-small (take k l)) (drop k l)
   where
-    go : (p : Option ℕ) → code p ≤ 1000 → (r : List ℕ) → code (with-rest p r) ≤ 1000
+    go : (p : Option ℕ) → code p < 2 ^ 8 → (r : List ℕ) → code (with-rest p r) < 2 ^ 8
     go p h [] = omega arith
     go p h (c ∷ r) = h
 
-unit-cut-small : (n k : ℕ) (l : List ℕ) → code (unit-cut n k l) ≤ 1000
+unit-cut-small : (n k : ℕ) (l : List ℕ) → code (unit-cut n k l) < 2 ^ 8
 unfolding unit-cut
 unit-cut-small n k l = go (prefix-cut k l) (unit-named n (drop k l)) (unit-small n (drop k l))
   where
-    go : (p u : Option ℕ) → code u ≤ 1000 → code (behind p u) ≤ 1000
+    go : (p u : Option ℕ) → code u < 2 ^ 8 → code (behind p u) < 2 ^ 8
     go none u h = omega arith
     go (some i) u h = h
 
-chosen-small : (l : List ℕ) (p u q v : Option ℕ) → code p ≤ 1000 → code u ≤ 1000 → code q ≤ 1000 → code v ≤ 1000 → Small (chosen l p u q v)
+chosen-small : (l : List ℕ) (p u q v : Option ℕ) → code p < 2 ^ 8 → code u < 2 ^ 8 → code q < 2 ^ 8 → code v < 2 ^ 8 → Small (chosen l p u q v)
 unfolding chosen prefix-code unit-code
 chosen-small l p (some u) q v a b c d = record { prefix = a; unit = b }
 chosen-small l p none q (some v) a b c d = record { prefix = c; unit = d }
@@ -73,7 +72,7 @@ chosen-small l (some i) none q none a b c d = record { prefix = a; unit = omega 
 chosen-small l none none (some j) none a b c d = record { prefix = c; unit = omega arith }
 chosen-small l none none none none a b c d = record { prefix = omega arith; unit = omega arith }
 
-whole-small : (n : ℕ) (l : List ℕ) (o : Option ℕ) → code o ≤ 1000 → Small (by-whole n l o)
+whole-small : (n : ℕ) (l : List ℕ) (o : Option ℕ) → code o < 2 ^ 8 → Small (by-whole n l o)
 unfolding by-whole prefix-code unit-code
 whole-small n l none h = rw (by-cut-is n l)
     (chosen-small l (prefix-cut 2 l) (unit-cut n 2 l) (prefix-cut 1 l) (unit-cut n 1 l) (prefix-cut-small 2 l) (unit-cut-small n 2 l) (prefix-cut-small 1 l) (unit-cut-small n 1 l))

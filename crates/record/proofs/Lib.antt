@@ -3,6 +3,6 @@ pub mod Fielding
 pub mod Joining
 pub mod Lending
 pub mod ReadingBack
+pub mod SameRecords
 pub mod Signed
-pub mod Telling
 pub mod Writing

@@ -117,14 +117,14 @@ unfoldable pub record-of : Reading → List ℕ
 record-of r = encoded (fields r)
 
 -- what is claimed of a record: two accepted readings of one label that have the same record are the same
-abbrev pub Telling : Type 0
-Telling =
+abbrev pub SameRecordSameReading : Type 0
+SameRecordSameReading =
     (n m : ℕ) (s : List ℕ) → reading n s .number ≡ 0 → reading m s .number ≡ 0 → record-of (reading n s) ≡ record-of (reading m s)
     → reading n s ≡ reading m s
 
 -- and of the letters of unknown units: the label has them where the record says
-abbrev pub LettersThere : Type 0
-LettersThere =
+abbrev pub LettersInLabel : Type 0
+LettersInLabel =
     (n : ℕ) (s : List ℕ)
     → map (λ (t : Term). take (letters-size t) (drop (letters-start t) s)) (reading n s .terms) ≡ map (λ (t : Term). letters-of (t .symbol)) (reading n s .terms)
 

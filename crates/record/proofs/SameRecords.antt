@@ -9,14 +9,13 @@ use lib.ListN.{length, take, drop}
 use lib.Seq.{take-at, drop-at}
 use Rattle.label.specs.declared.Tens.{Tens}
 use Rattle.label.specs.Split.{Placed, Refused}
-use Rattle.label.specs.Symbols.{symbol}
 use Rattle.label.specs.Reading.{Term, term, Reading, every, is-known, is-lawful, is-recommended, dimensions-of, scale-of, reading-of, reading}
 use Rattle.label.proofs.Refusals.{bounds}
 use Rattle.label.proofs.Lettering.{letters-there}
-use Rattle.label.proofs.Readings.{Accepted, Answered, answer-of, accepted-reading, number-refused, same-values}
-use Rattle.record.specs.Record.{digits, eight, value, signed, encoded, flag, prefix-code, unit-code, term-fields, terms-fields, head-fields, fields, record-of, Telling, LettersThere}
+use Rattle.label.proofs.Readings.{Answered, answer-of, accepted-reading, number-refused, same-values}
+use Rattle.record.specs.Record.{digits, eight, value, signed, encoded, flag, prefix-code, unit-code, term-fields, terms-fields, head-fields, fields, record-of, SameRecordSameReading, LettersInLabel}
 use Rattle.record.proofs.ReadingBack.{read-back}
-use Rattle.record.proofs.Codes.{Small, symbol-small, symbols-same}
+use Rattle.record.proofs.Codes.{symbol-small, symbols-same}
 
 -- NUMBERS
 
@@ -127,8 +126,8 @@ same-reading n m b k us e =
     ∙ ap (made k (map (term m b) us)) (w .0)
     ∙ sym (reading-made m k (map (term m b) us))
 
-pub telling : Telling
-telling n m s a b e = go (answer-of n s) (answer-of m s)
+pub same-record-same-reading : SameRecordSameReading
+same-record-same-reading n m s a b e = go (answer-of n s) (answer-of m s)
   where
     refused : {k i : ℕ} → Refused i k s → reading k s .number ≡ 0 → ⊥
     refused {k} {i} d z = let l = bounds (d .holds) .0 in omega (arith, number-refused k s i l .1 d)
@@ -141,5 +140,5 @@ telling n m s a b e = go (answer-of n s) (answer-of m s)
         let q : reading m s ≡ reading-of m (v .k) (map (term m (length s)) (v .units)) = rw (same-values x y) (accepted-reading y) in
         p ∙ same-reading n m (length s) (v .k) (v .units) (sym (ap record-of p) ∙ e ∙ ap record-of q) ∙ sym q
 
-pub letters-are-there : LettersThere
-letters-are-there = letters-there
+pub letters-in-label : LettersInLabel
+letters-in-label = letters-there

@@ -302,6 +302,20 @@ static void put(uint8_t *record, unsigned field, int64_t value)
 }
 
 /* the whole record: everything that knows its layout is here */
+/* An unknown unit's letters come after its prefix, and are between its quotes if it has any. */
+static void put_letters(uint8_t *record, unsigned field, const struct parser *p, const struct term *t)
+{
+    unsigned start = 0, length = 0;
+    if (t->symbol.unit == THALINGUZE_UNIT_UNKNOWN) {
+        unsigned prefix = t->symbol.prefix == THALINGUZE_PREFIX_DECA ? 2 : t->symbol.prefix != 0;
+        unsigned quotes = p->start[t->start + t->length - 1] == '\'';
+        start = t->start + prefix + quotes;
+        length = t->length - prefix - 2 * quotes;
+    }
+    put(record, field + THALINGUZE_TERM_LETTERS_START, start);
+    put(record, field + THALINGUZE_TERM_LETTERS_LENGTH, length);
+}
+
 static void write_record(uint8_t *record, const struct parser *p, const struct content *c)
 {
     size_t used = (THALINGUZE_FIELD_TERMS + THALINGUZE_TERM_FIELDS * p->count) * THALINGUZE_FIELD_SIZE;
@@ -320,6 +334,7 @@ static void write_record(uint8_t *record, const struct parser *p, const struct c
         put(record, field + THALINGUZE_TERM_EXPONENT, t->exponent);
         put(record, field + THALINGUZE_TERM_START, t->start);
         put(record, field + THALINGUZE_TERM_LENGTH, t->length);
+        put_letters(record, field, p, t);
     }
     memcpy(record + THALINGUZE_FIELD_DIMENSIONS * THALINGUZE_FIELD_SIZE, c->dimensions, sizeof c->dimensions);
     memcpy(record + THALINGUZE_FIELD_SCALE * THALINGUZE_FIELD_SIZE, c->scale, sizeof c->scale);

@@ -3,8 +3,8 @@ use Prim.Native.Nat.{ℕ, zero, suc, _+_, _*_, _-_, _<_, _≤_}
 use native.Mathlib.Omega.{arith}
 use mathlib.Core.Path.{_≡_, refl, sym, ap, _∙_}
 use mathlib.Core.List.{List, [], _∷_, _++_, map, append-assoc, append-nil}
-use lib.IntN.{ℤ}
-use lib.ListN.{length, take}
+use lib.IntN.{ℤ, pos}
+use lib.ListN.{length, take, replicate}
 use lib.Seq.{take-all}
 use Rattle.label.specs.Reading as spec
 use Rattle.label.specs.Reading.{exponent}
@@ -19,7 +19,7 @@ use Rattle.label.specs.Units.{base-count}
 use Rattle.reading.specs.Answers.{LettersNoted}
 use Rattle.record.specs.Recordable.{AllNoted}
 use Rattle.record.specs.Record.{field-size, fields-in-head, fields-in-term, fields-in-scale, head-size, term-place, dimensions-place, scale-place, record-size}
-use Rattle.record.specs.Record.{eight, encoded, no-fields, term-fields, terms-fields, empty-fields, sixtieths, scale-fields, head-of, head-fields, fields, record-of}
+use Rattle.record.specs.Record.{complement, digits, eight, encoded, term-fields, terms-fields, empty-fields, sixtieths, scale-fields, head-of, head-fields, fields, record-of}
 
 pub encoded-join : (xs ys : List ℤ) → encoded (xs ++ ys) ≡ encoded xs ++ encoded ys
 unfolding encoded
@@ -61,42 +61,23 @@ terms-step {b₀} {t} {x} b c i f p l k q e = record {
 
 -- PLACES WITHOUT A TERM
 
-empty-more : (n : ℕ) → 0 < n → empty-fields n ≡ no-fields ++ empty-fields (n - 1)
-unfolding empty-fields
-empty-more zero h = absurd (omega arith)
-empty-more (suc n) h = let e : suc n - 1 ≡ n = omega arith in rw e
+-- zeros are the bytes of zeros
+encoded-zeros : (n : ℕ) → encoded (replicate n (pos 0)) ≡ replicate (field-size * n) 0
+unfolding encoded eight complement digits
+encoded-zeros zero = refl
+encoded-zeros (suc n) =
+    let e : field-size * suc n ≡ suc (suc (suc (suc (suc (suc (suc (suc (field-size * n)))))))) = omega arith in
+    rw (e, encoded-zeros n)
 
--- what is written, and the places still to come
-pub record EmptyPut (b₀ : List ℕ) (count : ℕ) (b : List ℕ) (i : ℕ) : Type 0 where
-  pub room : length b ≡ length b₀
-  pub within : i ≤ most-terms
-  pub bytes : take (term-place i) b ++ encoded (empty-fields (most-terms - i)) ≡ take (term-place count) b₀ ++ encoded (empty-fields (most-terms - count))
-
-pub empty₀ : (b : List ℕ) (count : ℕ) → count ≤ most-terms → EmptyPut b count b count
-empty₀ b count h = record { room = refl; within = h; bytes = refl }
-
-pub empty-step : {b₀ : List ℕ} {count : ℕ} (b c : List ℕ) (i : ℕ) → EmptyPut b₀ count b i → i < most-terms → length c ≡ length b
-    → take (term-place i + field-size * fields-in-term) c ≡ take (term-place i) b ++ encoded no-fields
-    → EmptyPut b₀ count c (i + 1)
-empty-step {b₀} {count} b c i p h l e = record {
-  room = l ∙ p .room;
-  within = omega arith;
-  bytes =
-      let z : term-place (i + 1) ≡ term-place i + field-size * fields-in-term = omega arith in
-      let m : most-terms - (i + 1) ≡ most-terms - i - 1 = omega arith in
-      rw (z, m, e)
-      (append-assoc (take (term-place i) b) (encoded no-fields) (encoded (empty-fields (most-terms - i - 1)))
-      ∙ ap (λ (xs : List ℕ). take (term-place i) b ++ xs)
-      (sym (encoded-join no-fields (empty-fields (most-terms - i - 1))) ∙ ap encoded (sym (empty-more (most-terms - i) (omega arith))))
-      ∙ p .bytes);
-}
-
-pub empty-done : {b₀ : List ℕ} {count : ℕ} (b : List ℕ) (i : ℕ) → EmptyPut b₀ count b i → most-terms ≤ i
-    → take dimensions-place b ≡ take (term-place count) b₀ ++ encoded (empty-fields (most-terms - count))
-unfolding encoded empty-fields
-empty-done b i p h =
-    let e : i ≡ most-terms = omega (arith, p .within) in
-    sym (append-nil (take dimensions-place b)) ∙ rw e at (p .bytes)
+-- up to the dimensions
+pub cleared : (b c : List ℕ) (count : ℕ) → count ≤ most-terms
+    → take dimensions-place c ≡ take (term-place count) b ++ replicate (dimensions-place - term-place count) 0
+    → take dimensions-place c ≡ take (term-place count) b ++ encoded (empty-fields (most-terms - count))
+cleared b c count h e =
+    let z : dimensions-place - term-place count ≡ field-size * (fields-in-term * (most-terms - count)) = omega arith in
+    e
+    ∙ ap (λ (n : ℕ). take (term-place count) b ++ replicate n 0) z
+    ∙ ap (λ (xs : List ℕ). take (term-place count) b ++ xs) (sym (encoded-zeros (fields-in-term * (most-terms - count))))
 
 -- THE WHOLE RECORD
 

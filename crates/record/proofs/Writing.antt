@@ -5,7 +5,7 @@ use native.Mathlib.Numerals.{add-one}
 use mathlib.Core.Path.{_≡_, refl, sym, ap, _∙_}
 use mathlib.Core.List.{List, [], _∷_, _++_, append-assoc, append-nil}
 use lib.IntN.{ℤ, pos}
-use lib.ListN.{length, take, drop, getD, set, length-set, drop-of-length-le}
+use lib.ListN.{length, take, drop, getD, set, length-set, drop-of-length-le, replicate}
 use lib.Seq.{take-suc-set, drop-cons}
 use lib.Signed.{mag}
 use mir.Syntax.{w64}
@@ -85,3 +85,36 @@ all-done {b₀} {at} numbers b i p h =
     let e : i ≡ length numbers = omega (arith, p .within) in
     let n : drop i numbers ≡ [] = drop-of-length-le numbers h in
     rw (← e) (sym (append-nil (take (at + 8 * i) b)) ∙ rw n at (p .bytes))
+
+-- ZEROS
+
+-- the zeros that are written and those still to come are all of them
+pub record Clearing (b₀ : List ℕ) (from to : ℕ) (b : List ℕ) (i : ℕ) : Type 0 where
+  pub room : length b ≡ length b₀
+  pub within : i ≤ to
+  pub bytes : take i b ++ replicate (to - i) 0 ≡ take from b₀ ++ replicate (to - from) 0
+
+pub clearing₀ : (b : List ℕ) (from to : ℕ) → from ≤ to → Clearing b from to b from
+clearing₀ b from to h = record { room = refl; within = h; bytes = refl }
+
+zeros-more : (n : ℕ) → 0 < n → replicate {A = ℕ} n 0 ≡ 0 ∷ replicate (n - 1) 0
+zeros-more zero h = absurd (omega arith)
+zeros-more (suc n) h = let e : suc n - 1 ≡ n = omega arith in rw e
+
+pub clearing-more : {b₀ : List ℕ} {from to : ℕ} (b : List ℕ) (i : ℕ) → Clearing b₀ from to b i → i < to → to ≤ length b₀ → Clearing b₀ from to (set b i 0) (i + 1)
+clearing-more {b₀} {from} {to} b i p h g = record {
+  room = length-set b i 0 ∙ p .room;
+  within = omega arith;
+  bytes =
+      let q : to - (i + 1) ≡ to - i - 1 = omega arith in
+      rw (q, add-one i, take-suc-set b i 0 (omega (arith, p .room)))
+      (append-assoc (take i b) (0 ∷ []) (replicate (to - i - 1) 0)
+      ∙ ap (λ (xs : List ℕ). take i b ++ xs) (sym (zeros-more (to - i) (omega arith)))
+      ∙ p .bytes);
+}
+
+pub clearing-done : {b₀ : List ℕ} {from to : ℕ} (b : List ℕ) (i : ℕ) → Clearing b₀ from to b i → to ≤ i → take to b ≡ take from b₀ ++ replicate (to - from) 0
+clearing-done {b₀} {from} {to} b i p h =
+    let e : i ≡ to = omega (arith, p .within) in
+    let z : to - i ≡ 0 = omega arith in
+    sym (append-nil (take to b)) ∙ rw (z, e) at (p .bytes)

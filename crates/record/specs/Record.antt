@@ -6,7 +6,7 @@ use mathlib.Core.List.{List, [], _∷_, _++_, map}
 use mathlib.Core.Option.{Option, none, some}
 use lib.Dec.{eqb, ltb}
 use lib.IntN.{ℤ, pos, negsuc}
-use lib.ListN.{length, take, drop}
+use lib.ListN.{length, take, drop, replicate}
 use lib.Signed.{mag}
 use Rattle.label.specs.declared.Exponent.{Exponent}
 use Rattle.label.specs.declared.Tens.{Tens}
@@ -51,6 +51,19 @@ encoded (z ∷ zs) = eight z ++ encoded zs
 
 -- THE NUMBERS OF A READING
 
+-- how many bytes a number has, and how many numbers there are before the terms, in a term and in the scale
+abbrev pub field-size : ℕ
+field-size = 8
+
+abbrev pub fields-in-head : ℕ
+fields-in-head = 6
+
+abbrev pub fields-in-term : ℕ
+fields-in-term = 7
+
+abbrev pub fields-in-scale : ℕ
+fields-in-scale = 4
+
 abbrev pub flag : Bool → ℤ
 flag true = pos 1
 flag false = pos 0
@@ -80,18 +93,9 @@ term-fields t =
     ∷ pos (letters-size t)
     ∷ []
 
--- a place without a term
-abbrev pub no-fields : List ℤ
-no-fields = pos 0 ∷ pos 0 ∷ pos 0 ∷ pos 0 ∷ pos 0 ∷ pos 0 ∷ pos 0 ∷ []
-
 unfoldable pub terms-fields : List Term → List ℤ
 terms-fields [] = []
 terms-fields (t ∷ ts) = term-fields t ++ terms-fields ts
-
--- so many places without a term
-unfoldable pub empty-fields : ℕ → List ℤ
-empty-fields zero = []
-empty-fields (suc n) = no-fields ++ empty-fields n
 
 abbrev pub sixtieths : Exponent → ℤ
 sixtieths e = e .0
@@ -105,6 +109,10 @@ head-fields r = head-of (r .number) (r .k) (r .known) (r .lawful) (r .recommende
 
 abbrev pub scale-fields : Scale → List ℤ
 scale-fields c = c .of-2 .0 ∷ c .of-3 .0 ∷ c .of-5 .0 ∷ c .of-487 .0 ∷ []
+
+-- so many places without a term: zeros
+abbrev pub empty-fields : ℕ → List ℤ
+empty-fields n = replicate (fields-in-term * n) (pos 0)
 
 -- then 32 places for terms, the exponent of each base, and the exponents of 2, 3, 5 and 487
 unfoldable pub fields : Reading → List ℤ
@@ -129,19 +137,6 @@ LettersInLabel =
     → map (λ (t : Term). take (letters-size t) (drop (letters-start t) s)) (reading n s .terms) ≡ map (λ (t : Term). letters-of (t .symbol)) (reading n s .terms)
 
 -- PLACES IN THE RECORD, in bytes
-
--- how many bytes a number has, and how many numbers there are before the terms, in a term and in the scale
-abbrev pub field-size : ℕ
-field-size = 8
-
-abbrev pub fields-in-head : ℕ
-fields-in-head = 6
-
-abbrev pub fields-in-term : ℕ
-fields-in-term = 7
-
-abbrev pub fields-in-scale : ℕ
-fields-in-scale = 4
 
 abbrev pub head-size : ℕ
 head-size = field-size * fields-in-head

@@ -1,8 +1,8 @@
 // Numbers as bytes.
-ghost use Prim.Native.Nat.{_+_, _*_, _≤_};
+ghost use Prim.Native.Nat.{_+_, _*_, _-_, _≤_};
 ghost use mathlib.Core.Path.{_≡_};
 ghost use mathlib.Core.List.{_++_};
-ghost use lib.ListN.{length, take};
+ghost use lib.ListN.{length, take, replicate};
 ghost use Rattle.record.specs.Record.{digits, encoded};
 ghost use Rattle.record.specs.Record as spec;
 
@@ -39,6 +39,18 @@ pub fn put_all(b: &mut [u8], at: usize, numbers: &[i64])
     while i < numbers.len() {
         let n = complement(numbers[i]);
         put(b, at + 8 * i, n);
+        i += 1;
+    }
+}
+
+// Writes zeros from a place up to another.
+pub fn clear(b: &mut [u8], from: usize, to: usize)
+    requires { ⌜ (from ≤ to) × (to ≤ length (now b)) ⌝ }
+    ensures { λ _. ⌜ take to (now (b .exit)) ≡ take from (now (b .entry)) ++ replicate (to - from) 0 ⌝ }
+{
+    let mut i = from;
+    while i < to {
+        b[i] = 0;
         i += 1;
     }
 }

@@ -3,6 +3,7 @@ use crate::fields::HEAD_FIELDS;
 use crate::fields::TERM_FIELDS;
 use crate::fields::head_fields;
 use crate::fields::term_fields;
+use crate::numbers::clear;
 use crate::numbers::put_all;
 use reading::read::Answer;
 ghost use Prim.Native.Nat.{ℕ, _+_, _*_, _-_, _≤_, _<_};
@@ -57,19 +58,6 @@ fn put_terms(
     }
 }
 
-// Writes zeros into the places after the terms.
-fn put_no_terms(b: &mut [u8], count: usize)
-    requires { ⌜ (count ≤ most-terms) × (dimensions-place ≤ length (now b)) ⌝ }
-    ensures { λ _. ⌜ take dimensions-place (now (b .exit)) ≡ take (term-place count) (now (b .entry)) ++ encoded (empty-fields (most-terms - count)) ⌝ }
-{
-    let none = [0; TERM_FIELDS];
-    let mut i = count;
-    while i < MOST_TERMS {
-        put_all(b, HEAD_SIZE + TERM_SIZE * i, &none);
-        i += 1;
-    }
-}
-
 // Writes the record of a reading: its answer and its arrays, as reading::read::read leaves them.
 pub fn put_record(
     b: &mut [u8],
@@ -89,7 +77,7 @@ pub fn put_record(
     let head = head_fields(a, count);
     put_all(b, 0, &head);
     put_terms(b, count, places, exponents, names);
-    put_no_terms(b, count);
+    clear(b, HEAD_SIZE + TERM_SIZE * count, DIMENSIONS_PLACE);
     put_all(b, DIMENSIONS_PLACE, bases);
     put_all(b, SCALE_PLACE, primes);
 }

@@ -4,7 +4,7 @@ use lib.ListN.{length, getD}
 use Rattle.descent.specs.Terms.{lent}
 use Rattle.content.specs.Views.{terms-in}
 use Rattle.record.specs.Record.{terms-fields, record-size}
-use Rattle.record.proofs.Joining.{joined-is, fields-are}
+use Rattle.record.proofs.Joining.{joined-is, cleared, fields-are}
 use borrow.Author.Needs.{needs}
 use Rattle.record.proofs.record.put_record.Statement.{statement}
 use Rattle.record.proofs.record.put_record.Tie as tie
@@ -18,6 +18,8 @@ put-record-spec =
     (λ c. search needs)
     (λ c κs. search needs)
     (λ c κs. search needs)
+    (λ c. search needs)
+    (λ c. search needs)
     (λ c κs. search needs)
     (λ c κs. search needs)
     (λ c κs. search needs)
@@ -28,7 +30,7 @@ put-record-spec =
     let rest₅ = c .before .before .before .before .before in
     let put₄ = rest₅ .before .before .put-all2 in
     let rest₄ = rest₅ .before .before .before .before .before in
-    let put₃ = rest₄ .before .before .put-no-terms in
+    let put₃ = rest₄ .before .before .clear in
     let rest₃ = rest₄ .before .before .before .before in
     let put₂ = rest₃ .before .before .put-terms in
     let rest₂ = rest₃ .before .before .before .before in
@@ -40,5 +42,5 @@ put-record-spec =
     joined-is
     (head .result) (terms-fields (terms-in s (lent (x .places .now) (x .exponents .now)) (x .names .now) (getD (x .places .now) 64 0))) (x .bases .now) (x .primes .now) (getD (x .places .now) 64 0) (x .b .now) (put₁ .last .0) (put₂ .last .0) (put₃ .last .0) (put₄ .last .0) (put₅ .last .0)
     (ap length (head .ensures)) (start .pre .1 .dimensions) (start .pre .1 .scale) room
-    (put₁ .ensures) (put₂ .ensures s w) (put₃ .ensures) (put₄ .ensures) (put₅ .ensures)
+    (put₁ .ensures) (put₂ .ensures s w) (cleared (put₂ .last .0) (put₃ .last .0) (getD (x .places .now) 64 0) (start .pre .1 .few) (put₃ .ensures)) (put₄ .ensures) (put₅ .ensures)
     ∙ fields-are s (lent (x .places .now) (x .exponents .now)) (x .names .now) (x .bases .now) (x .primes .now) (x .a) (start .pre .1 .scale) (head .ensures)))

@@ -11,7 +11,7 @@ use lib.IntN.{natAbs}
 use borrow.Author.Tests.{eqb-true, eq-eqb, ne-eqb, leb-true}
 use Rattle.label.specs.declared.Exponent.{Exponent}
 use Rattle.label.specs.Limits.{parts-of-one, signed, denominator-among, denominator-of, negative, lowest-terms}
-use Rattle.label.proofs.Basics.{false-true}
+use Rattle.label.proofs.Basics.{false-true, all-below, at-below}
 use Rattle.claims.specs.Claims.{LowestTerms}
 
 abbrev divisors : List ℕ
@@ -19,23 +19,9 @@ divisors = 1 ∷ 2 ∷ 3 ∷ 4 ∷ 5 ∷ 6 ∷ 10 ∷ 12 ∷ 15 ∷ 20 ∷ 30 �
 
 -- THE TEST
 
--- a test passed by every number below n
-all-below : (ℕ → Bool) → ℕ → Bool
-all-below p zero = true
-all-below p (suc n) = p n && all-below p n
-
 two : (a b : Bool) → (a && b) ≡ true → (a ≡ true) × (b ≡ true)
 two true b t = (refl, t)
 two false b t = absurd (false-true t)
-
-at-below : (p : ℕ → Bool) (n : ℕ) → all-below p n ≡ true → (i : ℕ) → i < n → p i ≡ true
-unfolding all-below
-at-below p zero t i h = absurd (omega arith)
-at-below p (suc n) t i h = go (λ g. at-below p n (two (p n) (all-below p n) t .1) i g) (decLt i n)
-  where
-    go : (i < n → p i ≡ true) → Dec (i < n) → p i ≡ true
-    go ih (yes g) = ih g
-    go ih (no g) = let q : i ≡ n = omega arith in rw q (two (p n) (all-below p n) t .0)
 
 -- y is no denominator of m sixtieths, or not less than q
 no-less : ℕ → ℕ → ℕ → Bool
@@ -55,7 +41,7 @@ all-fit = refl
 
 -- THE LAW
 
--- only what is left of a behind its sixties counts
+-- only what is left of a after its sixties counts
 rest : (a q : ℕ) → a * q % parts-of-one ≡ a % parts-of-one * q % parts-of-one
 rest a q =
     ap (λ (x : ℕ). x * q % parts-of-one) (sym (div-add-mod' a parts-of-one))

@@ -6,10 +6,12 @@ use Rattle.label.proofs.Readings.{number-refused, number-accepted, accepted-giv
 use Rattle.label.proofs.Meanings.{refused-empty, of-its-terms, known-every, lawful-every, recommended-every, dimensions-sum, scale-sum}
 use Rattle.label.proofs.AsWritten.{exponents-written}
 use Rattle.label.proofs.Bounds.{bounds-kept}
+use Rattle.label.proofs.Sources.{rewriting-content, rewriting-again}
+use Rattle.label.proofs.Formed.{refusals-are-due, refuses-answered, never-twelve}
 use Rattle.label.specs.Samples.{SamplesHold}
 use Rattle.claims.proofs.Lowest.{lowest}
 use Rattle.claims.proofs.Sixtieths.{whole-divides, divides-whole}
-use Rattle.claims.specs.Claims.{ParseIsTheGrammar, ParseRefusesTheRest, Unambiguous, RefusalsAreTheConditions, BoundsAreKept, RefusalsAreEmpty, ZeroIsAcceptance, AcceptedContent, ExponentsAsWritten, AnswersComeFromTheTerms, KnownVerdict, LawfulVerdict, RecommendedVerdict, DimensionsAreSums, ScaleIsASum, AtMostOneKnownRest, SixtiethsAreTheBound, ShownInLowestTerms, GrammarsAgree, NotationsAgree}
+use Rattle.claims.specs.Claims.{ParseIsTheGrammar, ParseRefusesTheRest, Unambiguous, RefusalsAreTheConditions, BoundsAreKept, RefusalsAreEmpty, ZeroIsAcceptance, AcceptedContent, ExponentsAsWritten, AnswersComeFromTheTerms, KnownVerdict, LawfulVerdict, RecommendedVerdict, DimensionsAreSums, ScaleIsASum, AtMostOneKnownRest, SixtiethsAreTheBound, ShownInLowestTerms, GrammarsAgree, NotationsAgree, RewrittenReadsAsTheSame, RewritingRefusals, RefusedRewritesAreEmpty, OwnNotationHasForms, RewrittenOnceForAll}
 
 pub parse-is-the-grammar : ParseIsTheGrammar
 parse-is-the-grammar n s f ps = ((λ h. parsed-derived n s f ps h), (λ d. derived-parsed d))
@@ -74,3 +76,18 @@ notations-agree n m s x y a b = (same-split a b, accepted-gives a, rw (same-spli
 -- P1 to P12: one table, one claim (the crate label, specs/Samples.antt)
 pub samples : SamplesHold
 samples = samples-hold
+
+pub rewritten-reads-as-the-same : RewrittenReadsAsTheSame
+rewritten-reads-as-the-same n s m h = rewriting-content n s m h
+
+pub rewriting-refusals : RewritingRefusals
+rewriting-refusals n s m i l = refusals-are-due n s m i l
+
+pub refused-rewrites-are-empty : RefusedRewritesAreEmpty
+refused-rewrites-are-empty n s m i d = refuses-answered n s m d
+
+pub own-notation-has-forms : OwnNotationHasForms
+own-notation-has-forms n s h = never-twelve n s h
+
+pub rewritten-once-for-all : RewrittenOnceForAll
+rewritten-once-for-all n s m h = rewriting-again n s m h

@@ -18,6 +18,7 @@ use Rattle.label.specs.Split.{Split, Valued, valued, Refused, Accepts}
 use Rattle.label.specs.Reading.{Term, reading-of, reading}
 use Rattle.label.specs.Agreement.{Gives}
 use Rattle.label.specs.Meaning.{_∈_, Prefixable, Named, unrecommended, Sum, BaseIn, dimension, PrimeIn, prime-in-ten, scale-exponent, Empty, AsWritten, PowerKeeps, FactorKeeps}
+use Rattle.label.specs.Writing.{refuse, rewriting, Refuses, SameContent}
 
 -- DEMAND 2, READING
 
@@ -136,3 +137,28 @@ NotationsAgree =
     → Accepts n s x
     → Accepts m s y
     → (x ≡ y) × Gives n s x (reading n s) × Gives m s x (reading m s)
+
+-- DEMAND 2, REWRITING
+
+-- "A rewritten label, read in its new notation, gives the same units, prefixes, exponents and power of ten."
+abbrev pub RewrittenReadsAsTheSame : Type 0
+RewrittenReadsAsTheSame =
+    (n : ℕ) (s : List ℕ) (m : ℕ) → rewriting n s m .number ≡ 0 → SameContent (reading n s) (reading m (rewriting n s m .text))
+
+-- A refusal's number is given exactly when it is due, and nothing is written then.
+abbrev pub RewritingRefusals : Type 0
+RewritingRefusals = (n : ℕ) (s : List ℕ) (m i : ℕ) → 1 ≤ i → (rewriting n s m .number ≡ i) ↔ Refuses n s m i
+
+abbrev pub RefusedRewritesAreEmpty : Type 0
+RefusedRewritesAreEmpty = (n : ℕ) (s : List ℕ) (m i : ℕ) → Refuses n s m i → rewriting n s m ≡ refuse i
+
+-- A label has a form in its own notation.
+abbrev pub OwnNotationHasForms : Type 0
+OwnNotationHasForms = (n : ℕ) (s : List ℕ) → rewriting n s n .number ≡ 12 → ⊥
+
+-- Rewritten into the notation that it is in, a rewritten label keeps its bytes.
+abbrev pub RewrittenOnceForAll : Type 0
+RewrittenOnceForAll =
+    (n : ℕ) (s : List ℕ) (m : ℕ)
+    → rewriting n s m .number ≡ 0
+    → rewriting m (rewriting n s m .text) m ≡ record { number = 0; text = rewriting n s m .text }

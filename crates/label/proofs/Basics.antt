@@ -1,6 +1,7 @@
 -- Laws of tests, classes of bytes, runs, and what is found.
-use Prim.Native.Nat.{ℕ, zero, suc, _-_, _≤_}
+use Prim.Native.Nat.{ℕ, zero, suc, _-_, _≤_, _<_}
 use native.Mathlib.Omega.{arith}
+use native.Mathlib.Decide.{decLt}
 use native.Mathlib.Nat.{zero-sub, sub-zero, suc-sub-suc}
 use mathlib.Core.Path.{_≡_, refl, sym, _∙_, ap}
 use mathlib.Core.Bool.{Bool, true, false, _&&_}
@@ -38,6 +39,20 @@ and-left false y e = e
 pub and-right : (x y : Bool) → (x && y) ≡ true → y ≡ true
 and-right true y e = e
 and-right false y e = absurd (false-true e)
+
+-- a test passed by every number below n
+unfoldable pub all-below : (ℕ → Bool) → ℕ → Bool
+all-below p zero = true
+all-below p (suc n) = p n && all-below p n
+
+pub at-below : (p : ℕ → Bool) (n : ℕ) → all-below p n ≡ true → (i : ℕ) → i < n → p i ≡ true
+unfolding all-below
+at-below p zero t i h = absurd (omega arith)
+at-below p (suc n) t i h = go (λ g. at-below p n (and-right (p n) (all-below p n) t) i g) (decLt i n)
+  where
+    go : (i < n → p i ≡ true) → Dec (i < n) → p i ≡ true
+    go ih (yes g) = ih g
+    go ih (no g) = let q : i ≡ n = omega arith in rw q (and-left (p n) (all-below p n) t)
 
 -- FOUND
 

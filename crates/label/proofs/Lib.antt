@@ -15,6 +15,8 @@ pub mod Sound
 pub mod Labels
 pub mod Instances
 pub mod Widest
+pub mod Texts
+pub mod Styles
 pub mod Ruled
 pub mod Derivations
 pub mod Refusals
@@ -24,3 +26,11 @@ pub mod Meanings
 pub mod AsWritten
 pub mod Bounds
 pub mod Lettering
+pub mod Figures
+pub mod Owned
+pub mod Spelled
+pub mod Rewritten
+pub mod Parts
+pub mod Sources
+pub mod Forms
+pub mod Formed

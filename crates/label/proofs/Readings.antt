@@ -75,7 +75,7 @@ reading-number : (n : ℕ) (k : Tens) (ts : List Term) → reading-of n k ts .nu
 unfolding reading-of
 reading-number n k ts = refl
 
-accepted-number : {n : ℕ} {s : List ℕ} {v : Valued} → Accepted n s v → reading n s .number ≡ 0
+pub accepted-number : {n : ℕ} {s : List ℕ} {v : Valued} → Accepted n s v → reading n s .number ≡ 0
 accepted-number {n} {s} {v} a = ap (λ (r : Reading). r .number) (accepted-reading a) ∙ reading-number n (v .k) _
 
 refused-number : {i n : ℕ} {s : List ℕ} → Refused i n s → reading n s .number ≡ i

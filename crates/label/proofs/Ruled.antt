@@ -1,61 +1,123 @@
 -- What is proved of each notation by itself: one record, and one value of it for each notation. All else is proved from the record.
 use Prim.Native.Nat.{ℕ}
 use mathlib.Core.Path.{_≡_, refl, sym, _∙_}
-use mathlib.Core.Bool.{Bool, true, false, _||_}
+use mathlib.Core.Bool.{Bool, true, false, _||_, not}
 use mathlib.Core.List.{List, [], _∷_, map}
 use mathlib.Core.Option.{Option, some}
 use lib.Dec.{eqb}
 use borrow.Author.Tests.{eqb-true}
 use Rattle.label.specs.declared.Rules.{Rules}
-use Rattle.label.specs.Notations.{Notations, member, everywhere, notation, Row, value-among}
+use Rattle.label.specs.Notations.{Notations, member, everywhere, fractionless, notation, Row, value-among}
 use Rattle.label.specs.Rules.{fits-rules, ogip-rules, cds-rules, vounits-rules, ruled, rules-of}
 use Rattle.label.specs.Lexical.{Factor, Part}
+use Rattle.label.specs.Cds as Cds
+use Rattle.label.specs.Vounits as Vounits
 use Rattle.label.specs.Grammar.{Derives}
+use Rattle.label.specs.Writing.{Style, fits-style, ogip-style, cds-style, vounits-style, styled, style-of, Spelling}
 use Rattle.label.proofs.Basics.{false-true, none-some}
-use Rattle.label.proofs.General.{LabelBy}
+use Rattle.label.proofs.General.{SpellingBy, LabelBy}
 use Rattle.label.proofs.Labels.{Coherent}
-use Rattle.label.proofs.Instances.{fits-label, label-fits, ogip-label, label-ogip, cds-label, label-cds, vounits-label, label-vounits}
+use Rattle.label.proofs.Instances.{fits-label, label-fits, spelling-fits, ogip-label, label-ogip, spelling-ogip, cds-label, label-cds, cds-spelling, spelling-cds, vounits-label, label-vounits, vounits-spelling, spelling-vounits}
+use Rattle.label.proofs.Styles.{Suits, suits-fits, suits-ogip, suits-cds, suits-vounits}
 
 -- notation n has the rules r
 pub record RuledBy (n : ℕ) (r : Rules) : Type 0 where
-  -- what is derived by its rules is in its own grammar
+  -- its own grammar and spellings are those by its rules
   pub derives : {s : List ℕ} {f : Factor} {ps : List Part} → LabelBy r s f ps → Derives n s f ps
-  -- its row in the table
+  pub spelled : {l : List ℕ} → Spelling n l → SpellingBy r l
+  pub spells : {l : List ℕ} → SpellingBy r l → Spelling n l
+  -- its rows in the tables
+  pub is-notation : notation n ≡ true
   pub rules : rules-of n ≡ some r
+  pub style : Style
+  pub styled : style-of n ≡ some style
+  -- what the rules and the style have to do with each other and with what document 01 says of single notations
   pub coherent : Coherent r
+  pub percent : r .percent ≡ eqb n 3
+  pub raised : (r .brackets || (r .stars || r .caret)) ≡ not (member n fractionless)
+  pub suits : Suits style r
+  pub fractions : style .fractions ≡ not (member n fractionless)
 
 -- THE NOTATIONS
 
+spelled-fits : {l : List ℕ} → Spelling 1 l → SpellingBy fits-rules l
+spelled-fits (Spelling.fits d) = SpellingBy.letters d
+
 fits-ruled : RuledBy 1 fits-rules
-unfolding value-among rules-of ruled
+unfolding member notation value-among rules-of ruled style-of styled
 fits-ruled = record {
   derives = λ d. Derives.fits (label-fits d);
+  spelled = spelled-fits;
+  spells = λ d. Spelling.fits (spelling-fits d);
+  is-notation = refl;
   rules = refl;
+  style = fits-style;
+  styled = refl;
   coherent = λ e. absurd (false-true e);
+  percent = refl;
+  raised = refl;
+  suits = suits-fits;
+  fractions = refl;
 }
+
+spelled-ogip : {l : List ℕ} → Spelling 2 l → SpellingBy ogip-rules l
+spelled-ogip (Spelling.ogip d) = SpellingBy.letters d
 
 ogip-ruled : RuledBy 2 ogip-rules
-unfolding value-among rules-of ruled
+unfolding member notation value-among rules-of ruled style-of styled
 ogip-ruled = record {
   derives = λ d. Derives.ogip (label-ogip d);
+  spelled = spelled-ogip;
+  spells = λ d. Spelling.ogip (spelling-ogip d);
+  is-notation = refl;
   rules = refl;
+  style = ogip-style;
+  styled = refl;
   coherent = λ e. refl;
+  percent = refl;
+  raised = refl;
+  suits = suits-ogip;
+  fractions = refl;
 }
+
+spelled-cds : {l : List ℕ} → Spelling 3 l → SpellingBy cds-rules l
+spelled-cds (Spelling.cds d) = cds-spelling d
 
 cds-ruled : RuledBy 3 cds-rules
-unfolding value-among rules-of ruled
+unfolding member notation value-among rules-of ruled style-of styled
 cds-ruled = record {
   derives = λ d. Derives.cds (label-cds d);
+  spelled = spelled-cds;
+  spells = λ d. Spelling.cds (spelling-cds d);
+  is-notation = refl;
   rules = refl;
+  style = cds-style;
+  styled = refl;
   coherent = λ e. refl;
+  percent = refl;
+  raised = refl;
+  suits = suits-cds;
+  fractions = refl;
 }
 
+spelled-vounits : {l : List ℕ} → Spelling 4 l → SpellingBy vounits-rules l
+spelled-vounits (Spelling.vounits d) = vounits-spelling d
+
 vounits-ruled : RuledBy 4 vounits-rules
-unfolding value-among rules-of ruled
+unfolding member notation value-among rules-of ruled style-of styled
 vounits-ruled = record {
   derives = λ d. Derives.vounits (label-vounits d);
+  spelled = spelled-vounits;
+  spells = λ d. Spelling.vounits (spelling-vounits d);
+  is-notation = refl;
   rules = refl;
+  style = vounits-style;
+  styled = refl;
   coherent = λ e. absurd (false-true e);
+  percent = refl;
+  raised = refl;
+  suits = suits-vounits;
+  fractions = refl;
 }
 
 -- a notation's derivations are those of the general grammar by its rules
@@ -109,3 +171,24 @@ rules-ruled n r h =
     let e : some (w .0) ≡ some r = sym (w .1 .rules) ∙ h in
     let q : w .0 ≡ r = cc in
     rw q at (w .1)
+
+style-notation : (n : ℕ) (y : Style) → style-of n ≡ some y → notation n ≡ true
+unfolding style-of styled notation
+style-notation n y h = value-member n y styled h
+
+-- the rules and the style of one notation
+pub record Suited (m : ℕ) (y : Style) : Type 0 where
+  pub rules : Rules
+  pub ruled : RuledBy m rules
+  pub suits : Suits y rules
+  pub fractions : y .fractions ≡ not (member m fractionless)
+
+abbrev pub ruled-suited : {m : ℕ} {r : Rules} (o : RuledBy m r) → Suited m (o .style)
+ruled-suited {r = r} o = record { rules = r; ruled = o; suits = o .suits; fractions = o .fractions }
+
+pub suited : (m : ℕ) (y : Style) → style-of m ≡ some y → Suited m y
+suited m y h =
+    let w = notation-ruled m (style-notation m y h) in
+    let e : some (w .1 .style) ≡ some y = sym (w .1 .styled) ∙ h in
+    let q : w .1 .style ≡ y = cc in
+    rw q at (ruled-suited (w .1))

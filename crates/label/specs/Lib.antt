@@ -21,3 +21,4 @@ pub mod Meaning
 pub mod Letters
 pub mod Samples
 pub mod Ranges
+pub mod Writing

@@ -54,6 +54,10 @@ cds-vounits = cds ∷ vounits ∷ []
 abbrev pub nowhere : Notations
 nowhere = []
 
+-- "Fraction p/q: .. none in CDS."
+abbrev pub fractionless : Notations
+fractionless = only-cds
+
 -- the number of a notation
 unfoldable pub notation : ℕ → Bool
 notation n = member n everywhere

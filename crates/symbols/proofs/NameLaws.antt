@@ -8,7 +8,7 @@ use mathlib.Core.List.{List, [], _∷_, _++_}
 use mathlib.Core.Option.{Option, some}
 use lib.Dec.{T, leb, eqb, leb→le}
 use lib.ListN.{length, getD, List·getD-map}
-use Rattle.label.proofs.Basics.{both}
+use Rattle.label.proofs.Basics.{both, all-below}
 use Rattle.label.specs.Bytes.{same}
 use Rattle.label.specs.Choice.{pick}
 use Rattle.label.specs.Notations.{member}
@@ -21,7 +21,7 @@ use Rattle.symbols.specs.Columns.{name-lengths, name-keys, name-notation
 use Rattle.symbols.specs.Views.{place}
 use Rattle.symbols.proofs.Computing.{columns-compute}
 use Rattle.symbols.proofs.KeyLaws.{keyable, long-other, Spelled, agrees-spelled}
-use Rattle.symbols.proofs.SetLaws.{alike, all-below, told-by-bits, bit-member}
+use Rattle.symbols.proofs.SetLaws.{alike, told-by-bits, bit-member}
 use Rattle.symbols.proofs.RowLaws.{every, every-at, first, first-none, at-place, Sought, sought-none, sought-all, sought-hit, sought-miss}
 
 -- THE LIST OF NAMES FINDS WHAT THE TABLE FINDS

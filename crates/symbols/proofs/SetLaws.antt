@@ -1,13 +1,13 @@
 -- Sets of notations as bits: a test of a set, and the law that a bit then tells a member.
-use Prim.Native.Nat.{ℕ, zero, suc, _≤_, _<_}
+use Prim.Native.Nat.{ℕ, suc, _≤_, _<_}
 use native.Mathlib.Omega.{arith}
-use native.Mathlib.Decide.{ℕ-discrete, decLt}
+use native.Mathlib.Decide.{decLt}
 use mathlib.Core.Path.{_≡_, refl, sym, _∙_}
 use mathlib.Core.Bool.{Bool, true, false, _&&_, not}
 use mathlib.Core.List.{[], _∷_}
 use lib.Dec.{T, leb, leb→le}
 use borrow.Author.Tests.{lt-leb, ne-eqb}
-use Rattle.label.proofs.Basics.{both}
+use Rattle.label.proofs.Basics.{both, T→true, true→T, all-below, at-below}
 use Rattle.label.specs.Bytes.{all}
 use Rattle.label.specs.Notations.{Notations, member}
 use Rattle.symbols.specs.Sets.{bits, room, has-bit}
@@ -21,20 +21,6 @@ alike-is : (a b : Bool) → T (alike a b) → a ≡ b
 unfolding alike
 alike-is true true t = refl
 alike-is false false t = refl
-
--- the test p of every number below k
-unfoldable pub all-below : (ℕ → Bool) → ℕ → Bool
-all-below p zero = true
-all-below p (suc k) = p k && all-below p k
-
-below-at : (p : ℕ → Bool) (k n : ℕ) → n < k → T (all-below p k) → T (p n)
-unfolding all-below
-below-at p zero n h t = absurd (omega arith)
-below-at p (suc k) n h t = go (ℕ-discrete n k) (λ e. below-at p k n (omega arith) (both (p k) (all-below p k) t .1))
-  where
-    go : Dec (n ≡ k) → ((n ≡ k → ⊥) → T (p n)) → T (p n)
-    go (yes e) ih = rw e (both (p k) (all-below p k) t .0)
-    go (no e) ih = ih e
 
 -- a set of notations for which there is room, each of which its bits tell
 unfoldable pub told-by-bits : Notations → Bool
@@ -68,4 +54,4 @@ bit-member n ns t = go (decLt room n)
 
     go : Dec (room < n) → has-bit n (bits ns) ≡ member n ns
     go (yes h) = no-bit n (bits ns) h ∙ sym (none-above n ns h low)
-    go (no h) = alike-is _ _ (below-at same (suc room) n (omega arith) (both (all (λ m. leb m room) ns) _ t .1))
+    go (no h) = alike-is _ _ (true→T (at-below same (suc room) (T→true (all-below same (suc room)) (both (all (λ m. leb m room) ns) _ t .1)) n (omega arith)))

@@ -19,12 +19,13 @@ use Rattle.label.specs.Prefixes.{Prefix, prefix, prefixes, power-of}
 use Rattle.label.specs.Units.{BasePower, KnownUnit, units, bare, ten-to, unit-at, base-power, multiplicity, in-tens}
 use Rattle.label.specs.Reading.{base-in, prime-in}
 use Rattle.label.specs.Symbols.{Symbol, known, unknown}
+use Rattle.label.proofs.Basics.{all-below}
 use Rattle.symbols.specs.Sets.{bits, has-bit}
 use Rattle.symbols.specs.Slots.{unused, slot, prime-at, prime-slot, four-each, adds}
 use Rattle.symbols.specs.Columns.{prefix-powers, unit-prefixed, unit-recommended, unit-bases, unit-powers, unit-primes}
 use Rattle.symbols.specs.Views.{place, slot-in}
 use Rattle.symbols.proofs.Computing.{columns-compute}
-use Rattle.symbols.proofs.SetLaws.{alike, all-below, told-by-bits, bit-member}
+use Rattle.symbols.proofs.SetLaws.{alike, told-by-bits, bit-member}
 use Rattle.symbols.proofs.SymbolLaws.{placed-at}
 use Rattle.symbols.proofs.RowLaws.{every, every-at}
 

@@ -1,0 +1,319 @@
+-- Refusals 12 and 13 of rewriting, and that a label has a form in its own notation.
+use Prim.Native.Nat.{ℕ, _*_, _%_, _≤_, _<_}
+use native.Mathlib.Omega.{arith}
+use native.Mathlib.Nat.{mul-mod-right, div-one}
+use mathlib.Core.Path.{_≡_, refl, sym, ap, _∙_}
+use mathlib.Core.Bool.{Bool, true, false, _||_, not}
+use mathlib.Core.List.{List, [], _∷_, _++_, map}
+use mathlib.Core.Option.{Option, none, some}
+use mathlib.Core.Logic.{_↔_}
+use lib.Dec.{eqb, leb}
+use lib.IntN.{natAbs}
+use lib.ListN.{length}
+use lib.Seq.{drop-at}
+use borrow.Author.Tests.{eqb-true, eq-eqb, ne-eqb, leb-false, lt-leb}
+use Rattle.label.specs.declared.Rules.{Rules}
+use Rattle.label.specs.declared.Exponent.{Exponent}
+use Rattle.label.specs.declared.Tens.{Tens}
+use Rattle.label.specs.Bytes.{all}
+use Rattle.label.specs.Choice.{pick}
+use Rattle.label.specs.Notations.{member, fractionless, notation}
+use Rattle.label.specs.Symbols.{Symbol, unknown, symbol}
+use Rattle.label.specs.Lexical.{Written, unwritten, whole, Part}
+use Rattle.label.specs.Limits.{signed, exclusive-or, Ratio, ratio, sixtieths, bounded, exponent-in, exponent-of, denominator-among, denominator-of, lowest-terms}
+use Rattle.label.specs.Split.{Placed, Valued}
+use Rattle.label.specs.Reading.{term, Reading, refusal, reading-of, reading}
+use Rattle.label.specs.Writing.{Style, power-text, exponent-text, prefix-letters, reads-as, in-quotes, symbol-text, Writable, both-texts, unit-text, factor-text, more-text, label-text, written-by, written, own-letters, writable, ReadsAs, Named, TakesName, Form, ExponentForm, HasForm, Formless, Rewriting, refuse, unless, sized, written-reading, rewriting, Refuses}
+use Rattle.label.proofs.Basics.{none-some, false-true}
+use Rattle.label.proofs.General.{SpellingBy, ExponentBy}
+use Rattle.label.proofs.Ruled.{RuledBy, derives-by, notation-ruled, Suited, ruled-suited}
+use Rattle.label.proofs.Refusals.{bounds, Values, valued-values}
+use Rattle.label.proofs.Places.{Stands, AllStand, label-stands, stands-there}
+use Rattle.label.proofs.Readings.{Accepted, Answered, answer-of, number-refused, accepted-reading}
+use Rattle.label.proofs.Figures.{size-signed}
+use Rattle.label.proofs.Spelled.{read-as}
+use Rattle.label.proofs.Rewritten.{both-of, AllReady}
+use Rattle.label.proofs.Owned.{unit-owned, letters-prefixed, QuotedAs, quoted-as, Sourced, OwnedBy, unquoted-owned, letters-owned}
+use Rattle.label.proofs.Parts.{PartBy, AllParts, label-parts}
+use Rattle.label.proofs.Sources.{writable-at, accepted-kept}
+use Rattle.label.proofs.Forms.{not-read, text-form, form-text}
+
+-- EXPONENTS
+
+module _ {m : ℕ} {y : Style} (o : Suited m y) where
+  fractions-form : y .fractions ≡ true → member m fractionless ≡ false
+  fractions-form f = go (member m fractionless) (sym (o .fractions) ∙ f)
+    where
+      go : (b : Bool) → not b ≡ true → b ≡ false
+      go true h = absurd (false-true h)
+      go false h = refl
+
+  text-exponent : (e : Exponent) (t : List ℕ) → exponent-text y e ≡ some t → ExponentForm m e
+  unfolding exponent-text power-text
+  text-exponent e t h = go (eqb (lowest-terms e .denominator) 1) (y .fractions) _ _ refl refl h
+    where
+      go : (a b : Bool) (u v : List ℕ) → eqb (lowest-terms e .denominator) 1 ≡ a → y .fractions ≡ b → pick a (some u) (pick b (some v) none) ≡ some t → ExponentForm m e
+      go true b u v p q h = ExponentForm.whole (eqb-true (lowest-terms e .denominator) 1 p)
+      go false true u v p q h = ExponentForm.fraction (fractions-form q)
+      go false false u v p q h = absurd (none-some h)
+
+  picked : (a b : Bool) (u v : List ℕ) → (a || b) ≡ true → (t : List ℕ) × (pick a (some u) (pick b (some v) none) ≡ some t)
+  picked true b u v h = (u, refl)
+  picked false true u v h = (v, refl)
+  picked false false u v h = absurd (false-true h)
+
+  exponent-written : {e : Exponent} → ExponentForm m e → (t : List ℕ) × (exponent-text y e ≡ some t)
+  unfolding exponent-text power-text
+  exponent-written {e} (ExponentForm.whole q) = picked (eqb (lowest-terms e .denominator) 1) (y .fractions) _ _ (rw (eq-eqb (lowest-terms e .denominator) 1 q))
+  exponent-written {e} (ExponentForm.fraction q) = picked (eqb (lowest-terms e .denominator) 1) (y .fractions) _ _ (either (eqb (lowest-terms e .denominator) 1) (y .fractions) (o .fractions ∙ ap not q))
+    where
+      either : (a b : Bool) → b ≡ true → (a || b) ≡ true
+      either true b h = refl
+      either false b h = h
+
+  -- UNITS AND LABELS
+
+  unit-form : (w : Writable) → Sourced (w .own) (w .symbol) → (t : List ℕ) → unit-text y m w ≡ some t → HasForm m w
+  unfolding unit-text
+  unit-form w s t h =
+      let d = both-of (symbol-text y m (w .own) (w .symbol)) (exponent-text y (w .exponent)) t h in
+      record { spelling = d .one; unit = text-form o (d .one) s (d .first); exponent = text-exponent (w .exponent) (d .two) (d .second) }
+
+  unit-written : (w : Writable) → Sourced (w .own) (w .symbol) → HasForm m w → (t : List ℕ) × (unit-text y m w ≡ some t)
+  unfolding unit-text both-texts
+  unit-written w s f =
+      let e = exponent-written (f .exponent) in
+      (f .spelling ++ e .0, rw (form-text o s (f .unit), e .1))
+
+-- each unit has a form
+pub data AllFormed (m : ℕ) : List Writable → Type 0 where
+  done : AllFormed m []
+  also : {w : Writable} {ws : List Writable} → HasForm m w → AllFormed m ws → AllFormed m (w ∷ ws)
+
+not-formed : {m : ℕ} {ws : List Writable} → Formless m ws → AllFormed m ws → ⊥
+not-formed (Formless.here f) (AllFormed.also d ds) = f d
+not-formed (Formless.later f) (AllFormed.also d ds) = not-formed f ds
+
+-- each unit has a form and x is a text, or one has none and x is nothing
+pub data Decided (m : ℕ) (ws : List Writable) (x : Option (List ℕ)) : Type 0 where
+  formed : AllFormed m ws → (t : List ℕ) → x ≡ some t → Decided m ws x
+  unformed : Formless m ws → x ≡ none → Decided m ws x
+
+module _ {m : ℕ} {y : Style} (o : Suited m y) where
+  more-decided : {ws : List Writable} → AllReady ws → Decided m ws (more-text y m ws)
+  unfolding more-text both-texts
+  more-decided AllReady.done = Decided.formed AllFormed.done [] refl
+  more-decided (AllReady.also {w = w} {ws = ws} s ss) = go (unit-text y m w) refl (more-decided ss)
+    where
+      go : (u : Option (List ℕ)) → unit-text y m w ≡ u → Decided m ws (more-text y m ws) → Decided m (w ∷ ws) (both-texts (some (y .joint)) (both-texts u (more-text y m ws)))
+      go none e d = Decided.unformed (Formless.here (λ f. none-some (sym e ∙ unit-written o w (s .sourced) f .1))) refl
+      go (some u) e (Decided.formed fs t h) = Decided.formed (AllFormed.also (unit-form o w (s .sourced) u e) fs) (y .joint ++ (u ++ t)) (rw h)
+      go (some u) e (Decided.unformed f h) = Decided.unformed (Formless.later f) (rw h)
+
+  -- another first text decides nothing
+  other-first : {ws : List Writable} (a b : List ℕ) (x : Option (List ℕ)) → Decided m ws (both-texts (some a) x) → Decided m ws (both-texts (some b) x)
+  unfolding both-texts
+  other-first a b none (Decided.formed fs t h) = absurd (none-some h)
+  other-first a b none (Decided.unformed f h) = Decided.unformed f refl
+  other-first a b (some x) (Decided.formed fs t h) = Decided.formed fs (b ++ x) refl
+  other-first a b (some x) (Decided.unformed f h) = absurd (none-some (sym h))
+
+  label-decided : (k : Tens) {ws : List Writable} → AllReady ws → Decided m ws (label-text y m k ws)
+  unfolding label-text more-text
+  label-decided k AllReady.done = Decided.formed AllFormed.done [] refl
+  label-decided k (AllReady.also {w = w} {ws = ws} s ss) =
+      other-first (y .joint) (factor-text y k) (both-texts (unit-text y m w) (more-text y m ws)) (more-decided (AllReady.also {w = w} {ws = ws} s ss))
+
+pub written-decided : (m : ℕ) → notation m ≡ true → (k : Tens) {ws : List Writable} → AllReady ws → Decided m ws (written m k ws)
+unfolding written written-by
+written-decided m h k s = let w = notation-ruled m h in rw (w .1 .styled) (label-decided (ruled-suited (w .1)) k s)
+
+-- A LABEL'S OWN NOTATION HAS A FORM FOR IT
+
+-- the same spelling, read again
+own-reads : {n : ℕ} {r : Rules} {x : Symbol} (s t : List ℕ) → RuledBy n r → SpellingBy r s → symbol n s ≡ x → s ≡ t → ReadsAs n t x
+own-reads s t o d e q = rw (← q) (record { spelling = o .spells d; is = e })
+
+module _ {n : ℕ} {y : Style} (o : Suited n y) where
+  owned-formed : {s : List ℕ} {x : Symbol} → SpellingBy (o .rules) s → symbol n s ≡ x → OwnedBy n s x → (t : List ℕ) × Form n (own-letters x s) x t
+  unfolding own-letters
+  owned-formed {s} d e (OwnedBy.by-name {p = p} {u = u} r q f h) = (
+    prefix-letters p ++ r,
+    rw (q, drop-at (prefix-letters p) r (length (prefix-letters p)) refl)
+        (Form.by-name {p = p} {u = u} {l = r} (TakesName.keeps (Named.named (unit-owned n r u f))) (own-reads s (prefix-letters p ++ r) (o .ruled) d e q)),
+  )
+  owned-formed {s} d e (OwnedBy.by-letters {p = p} {l = l} q g h) = (prefix-letters p ++ l, Form.plainly {p = p} {l = l} (own-reads s (prefix-letters p ++ l) (o .ruled) d e q))
+
+  quoted-formed : {s : List ℕ} → SpellingBy (o .rules) s → QuotedAs n s → (t : List ℕ) × Form n (own-letters (symbol n s) s) (symbol n s) t
+  unfolding own-letters
+  quoted-formed {s} d w = rw (w .reads) (go (reads-as n (prefix-letters (w .prefix) ++ w .letters) (unknown (w .prefix) (w .letters))) refl)
+    where
+      go : (b : Bool) → reads-as n (prefix-letters (w .prefix) ++ w .letters) (unknown (w .prefix) (w .letters)) ≡ b → (t : List ℕ) × Form n (w .letters) (unknown (w .prefix) (w .letters)) t
+      go true e = (
+        prefix-letters (w .prefix) ++ w .letters,
+        Form.plainly {l = w .letters} (record {
+          spelling = o .ruled .spells (SpellingBy.letters (letters-prefixed (w .prefix) (w .spelled)));
+          is = read-as n (prefix-letters (w .prefix) ++ w .letters) (unknown (w .prefix) (w .letters)) e;
+        }),
+      )
+      go false e = (
+        prefix-letters (w .prefix) ++ in-quotes (w .letters),
+        Form.quoted {l = w .letters} (not-read e) (own-reads s (prefix-letters (w .prefix) ++ in-quotes (w .letters)) (o .ruled) d (w .reads) (w .is)),
+      )
+
+  spelling-formed : {s : List ℕ} → SpellingBy (o .rules) s → (t : List ℕ) × Form n (own-letters (symbol n s) s) (symbol n s) t
+  unfolding all
+  spelling-formed {s} (SpellingBy.letters f) = owned-formed (SpellingBy.letters f) refl (letters-owned n f)
+  spelling-formed (SpellingBy.percent f) = owned-formed (SpellingBy.percent f) refl (unquoted-owned n (37 ∷ []) tt (omega arith))
+  spelling-formed (SpellingBy.quoted f q) = quoted-formed (SpellingBy.quoted f q) (quoted-as n q)
+
+-- a power that is whole has the denominator 1
+among-one : (a : ℕ) (qs : List ℕ) → a * 1 % 60 ≡ 0 → denominator-among a (1 ∷ qs) ≡ 1
+unfolding denominator-among
+among-one a qs e = rw (eq-eqb (a * 1 % 60) 0 e, denominator-among)
+
+whole-lowest : (b : Bool) (q : Ratio) (e : Exponent) → q .denominator ≡ 1 → exponent-in b q ≡ some e → lowest-terms e .denominator ≡ 1
+unfolding exponent-in lowest-terms denominator-of
+whole-lowest b q e d h = go (bounded q) h
+  where
+    go : (x : Bool) → pick x (some (record { 0 = signed (exclusive-or b (q .negative)) (sixtieths q) })) none ≡ some e → denominator-among (natAbs (e .0)) (1 ∷ 2 ∷ 3 ∷ 4 ∷ 5 ∷ 6 ∷ 10 ∷ 12 ∷ 15 ∷ 20 ∷ 30 ∷ 60 ∷ []) ≡ 1
+    go false h = absurd (none-some h)
+    go true h =
+        let w : record { 0 = signed (exclusive-or b (q .negative)) (sixtieths q) } ≡ e = cc in
+        let z : natAbs (e .0) ≡ 60 * q .numerator = rw (← w, size-signed (exclusive-or b (q .negative)) (sixtieths q), d) (div-one (60 * q .numerator)) in
+        let v : natAbs (e .0) * 1 ≡ 60 * q .numerator = omega arith in
+        among-one (natAbs (e .0)) _ (rw v (mul-mod-right 60 (q .numerator)))
+
+-- the rules of a notation without fractions
+no-powers : (a b c : Bool) → (a || (b || c)) ≡ false → (a ≡ false) × (b ≡ false) × (c ≡ false)
+no-powers true b c h = absurd (false-true (sym h))
+no-powers false true c h = absurd (false-true (sym h))
+no-powers false false c h = (refl, refl, h)
+
+whole-exponent : {n : ℕ} {r : Rules} {t : List ℕ} {w : Written} (b : Bool) (e : Exponent) → RuledBy n r → member n fractionless ≡ true → ExponentBy r t w → exponent-of b w ≡ some e → lowest-terms e .denominator ≡ 1
+unfolding exponent-of ratio
+whole-exponent {r = r} b e o k x h = go x h (no-powers (r .brackets) (r .stars) (r .caret) (o .raised ∙ ap not k))
+  where
+    go : {t : List ℕ} {w : Written} → ExponentBy r t w → exponent-of b w ≡ some e → (r .brackets ≡ false) × (r .stars ≡ false) × (r .caret ≡ false) → lowest-terms e .denominator ≡ 1
+    go ExponentBy.none h p = whole-lowest b (ratio unwritten) e refl h
+    go (ExponentBy.integer {n = n} f i) h p = whole-lowest b (ratio (whole n)) e refl h
+    go (ExponentBy.bracketed f i) h p = absurd (false-true (sym (p .0) ∙ f))
+    go (ExponentBy.stars f i) h p = absurd (false-true (sym (p .1) ∙ f))
+    go (ExponentBy.caret f i) h p = absurd (false-true (sym (p .2) ∙ f))
+
+exponent-formed : {n : ℕ} {r : Rules} {t : List ℕ} {w : Written} (b : Bool) (e : Exponent) → RuledBy n r → ExponentBy r t w → exponent-of b w ≡ some e → ExponentForm n e
+exponent-formed {n} b e o x h = go (member n fractionless) refl
+  where
+    go : (c : Bool) → member n fractionless ≡ c → ExponentForm n e
+    go true k = ExponentForm.whole (whole-exponent b e o k x h)
+    go false k = ExponentForm.fraction k
+
+-- THE TERMS OF AN ACCEPTED LABEL
+
+module _ {n : ℕ} {y : Style} (o : Suited n y) (s : List ℕ) where
+  part-formed : {p : Part} (e : Exponent) → PartBy (o .rules) p → Stands s p → exponent-of (p .turned) (p .power) ≡ some e → HasForm n (writable-at n s p e)
+  part-formed {p} e d w h =
+      let f = spelling-formed o (d .spelled) in
+      record { spelling = f .0; unit = rw (stands-there w) (f .1); exponent = exponent-formed (p .turned) e (o .ruled) (d .raised) h }
+
+  units-formed : {ps : List Part} {us : List Placed} → AllParts (o .rules) ps → AllStand s ps → Values ps us → AllFormed n (map (writable s) (map (term n (length s)) us))
+  unfolding writable term
+  units-formed AllParts.done AllStand.none Values.no-values = AllFormed.done
+  units-formed (AllParts.also d ds) (AllStand.some w ws) (Values.value {e = e} h v) = AllFormed.also (part-formed e d w h) (units-formed ds ws v)
+
+-- what an accepted label's terms are to be written from
+record Accounted (n : ℕ) (ws : List Writable) : Type 0 where
+  pub ready : AllReady ws
+  pub formed : AllFormed n ws
+
+accepted-accounted : {n : ℕ} {s : List ℕ} {v : Valued} → Accepted n s v → Accounted n (map (writable s) (map (term n (length s)) (v .units)))
+accepted-accounted {n} {s} {v} a =
+    let d = derives-by (a .derived) in
+    let u = valued-values (a .factor) (a .parts) v (a .within) in
+    record {
+      ready = accepted-kept a .ready;
+      formed = units-formed (ruled-suited (d .1)) s (label-parts (d .2)) (label-stands (d .2)) u;
+    }
+
+reading-accounted : {n : ℕ} {s : List ℕ} {v : Valued} → Accepted n s v → (a : Reading) → a ≡ reading-of n (v .k) (map (term n (length s)) (v .units)) → Accounted n (map (writable s) (a .terms))
+unfolding reading-of
+reading-accounted w a e = rw e (accepted-accounted w)
+
+accounted : (n : ℕ) (s : List ℕ) → reading n s .number ≡ 0 → Accounted n (map (writable s) (reading n s .terms))
+accounted n s z = go (answer-of n s)
+  where
+    go : Answered n s → Accounted n (map (writable s) (reading n s .terms))
+    go (Answered.refusing i e d) = absurd (omega (arith, bounds (d .holds), z, number-refused n s i (bounds (d .holds) .0) .1 d))
+    go (Answered.accepting v w) = reading-accounted w (reading n s) (accepted-reading w)
+
+-- REWRITING'S REFUSALS
+
+module _ (n : ℕ) (s : List ℕ) (m : ℕ) where
+  refused-source : (i : ℕ) → 1 ≤ i → reading n s .number ≡ i → rewriting n s m ≡ refuse i
+  unfolding rewriting unless
+  refused-source i h e = let f : eqb i 0 ≡ false = ne-eqb i 0 (λ q. omega arith) in rw (e, f)
+
+  refused-target : reading n s .number ≡ 0 → notation m ≡ false → rewriting n s m ≡ refuse 1
+  unfolding rewriting unless
+  refused-target z e = rw (eq-eqb (reading n s .number) 0 z, e)
+
+  refused-form : reading n s .number ≡ 0 → notation m ≡ true → written-reading m s (reading n s) ≡ none → rewriting n s m ≡ refuse 12
+  unfolding rewriting unless sized
+  refused-form z e h = rw (eq-eqb (reading n s .number) 0 z, e, h)
+
+  refused-long : (t : List ℕ) → reading n s .number ≡ 0 → notation m ≡ true → written-reading m s (reading n s) ≡ some t → 255 < length t → rewriting n s m ≡ refuse 13
+  unfolding rewriting unless sized
+  refused-long t z e h l = rw (eq-eqb (reading n s .number) 0 z, e, h, lt-leb (length t) 255 l)
+
+  -- 12 is given where no text is written: "a term or exponent has no form in the target"
+  formless-none : reading n s .number ≡ 0 → notation m ≡ true → Formless m (map (writable s) (reading n s .terms)) → written-reading m s (reading n s) ≡ none
+  formless-none z e f = go (written-decided m e (reading n s .k) (accounted n s z .ready))
+    where
+      go : Decided m (map (writable s) (reading n s .terms)) (written-reading m s (reading n s)) → written-reading m s (reading n s) ≡ none
+      go (Decided.formed fs t h) = absurd (not-formed f fs)
+      go (Decided.unformed g h) = h
+
+  none-formless : reading n s .number ≡ 0 → notation m ≡ true → written-reading m s (reading n s) ≡ none → Formless m (map (writable s) (reading n s .terms))
+  none-formless z e h = go (written-decided m e (reading n s .k) (accounted n s z .ready))
+    where
+      go : Decided m (map (writable s) (reading n s .terms)) (written-reading m s (reading n s)) → Formless m (map (writable s) (reading n s .terms))
+      go (Decided.formed fs t q) = absurd (none-some (sym h ∙ q))
+      go (Decided.unformed g q) = g
+
+  -- a refusal that is due is answered, with nothing written
+  pub refuses-answered : {i : ℕ} → Refuses n s m i → rewriting n s m ≡ refuse i
+  refuses-answered (Refuses.source {i = i} d) = refused-source i (bounds (d .holds) .0) (number-refused n s i (bounds (d .holds) .0) .1 d)
+  refuses-answered (Refuses.target z c) = refused-target z c
+  refuses-answered (Refuses.formless z e f) = refused-form z e (formless-none z e f)
+  refuses-answered (Refuses.long {t = t} z e h l) = refused-long t z e h l
+
+  -- a refusal that is answered is due
+  answered-refuses : (i : ℕ) → 1 ≤ i → rewriting n s m .number ≡ i → Refuses n s m i
+  unfolding rewriting unless sized
+  answered-refuses i l h = go (eqb (reading n s .number) 0) (notation m) (written-reading m s (reading n s)) refl refl refl h
+    where
+      last : (t : List ℕ) (b : Bool) → leb (length t) 255 ≡ b → reading n s .number ≡ 0 → notation m ≡ true → written-reading m s (reading n s) ≡ some t
+          → unless b 13 (record { number = 0; text = t }) .number ≡ i → Refuses n s m i
+      last t true f p q o h = absurd (omega arith)
+      last t false f p q o h = rw (← h) (Refuses.long p q o (leb-false (length t) 255 f))
+
+      go : (a b : Bool) (o : Option (List ℕ)) → eqb (reading n s .number) 0 ≡ a → notation m ≡ b → written-reading m s (reading n s) ≡ o
+          → unless a (reading n s .number) (unless b 1 (sized o)) .number ≡ i → Refuses n s m i
+      go false b o p q e h = Refuses.source (number-refused n s i l .0 h)
+      go true false o p q e h = rw (← h) (Refuses.target (eqb-true (reading n s .number) 0 p) q)
+      go true true none p q e h = rw (← h) (Refuses.formless (eqb-true (reading n s .number) 0 p) q (none-formless (eqb-true (reading n s .number) 0 p) q e))
+      go true true (some t) p q e h = last t (leb (length t) 255) refl (eqb-true (reading n s .number) 0 p) q e h
+
+  -- Rewriting's number is that of the refusal that is due.
+  pub refusals-are-due : (i : ℕ) → 1 ≤ i → (rewriting n s m .number ≡ i) ↔ Refuses n s m i
+  refusals-are-due i l = ((λ h. answered-refuses i l h), (λ d. ap (λ (x : Rewriting). x .number) (refuses-answered d)))
+
+-- 12 is never given where a label is rewritten into its own notation.
+own-refuses : {i n : ℕ} {s : List ℕ} → Refuses n s n i → i ≡ 12 → ⊥
+own-refuses (Refuses.source d) e = omega (arith, bounds (d .holds))
+own-refuses (Refuses.target z c) e = omega arith
+own-refuses {n = n} {s = s} (Refuses.formless z q f) e = not-formed f (accounted n s z .formed)
+own-refuses (Refuses.long z q h l) e = omega arith
+
+pub never-twelve : (n : ℕ) (s : List ℕ) → rewriting n s n .number ≡ 12 → ⊥
+never-twelve n s h = own-refuses (answered-refuses n s n 12 (omega arith) h) refl

@@ -1,3 +1,13 @@
 pub mod Sixtieths
 pub mod Lowest
+pub mod Coprime
+pub mod Valuations
+pub mod Exactness
+pub mod WholeLaws
+pub mod Conversions
+pub mod ConversionAnswers
+pub mod Inverses
+pub mod Bounds
+pub mod Scales
+pub mod Sizings
 pub mod Proved

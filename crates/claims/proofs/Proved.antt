@@ -12,6 +12,13 @@ use Rattle.label.specs.Samples.{SamplesHold}
 use Rattle.claims.proofs.Lowest.{lowest}
 use Rattle.claims.proofs.Sixtieths.{whole-divides, divides-whole}
 use Rattle.claims.specs.Claims.{ParseIsTheGrammar, ParseRefusesTheRest, Unambiguous, RefusalsAreTheConditions, BoundsAreKept, RefusalsAreEmpty, ZeroIsAcceptance, AcceptedContent, ExponentsAsWritten, AnswersComeFromTheTerms, KnownVerdict, LawfulVerdict, RecommendedVerdict, DimensionsAreSums, ScaleIsASum, AtMostOneKnownRest, SixtiethsAreTheBound, ShownInLowestTerms, GrammarsAgree, NotationsAgree, RewrittenReadsAsTheSame, RewritingRefusals, RefusedRewritesAreEmpty, OwnNotationHasForms, RewrittenOnceForAll}
+use Rattle.claims.proofs.Conversions.{factor-once}
+use Rattle.claims.proofs.ConversionAnswers.{gives-converts, number-due, due-refused, zero-undue}
+use Rattle.claims.proofs.Inverses.{converts-itself, converts-inverse}
+use Rattle.claims.proofs.Bounds as bounds
+use Rattle.claims.proofs.Sizings as sizings
+use Rattle.claims.specs.Sizing.{SizesGiveTheFactor, FractionExactlyIf}
+use Rattle.claims.specs.Converting.{OneFactor, ConvertsExactlyIf, ConversionRefusals, RefusedConversions, ConversionSucceeds, ItselfByOne, BackByTheInverse, ExponentsBounded, RatiosBounded}
 
 pub parse-is-the-grammar : ParseIsTheGrammar
 parse-is-the-grammar n s f ps = ((λ h. parsed-derived n s f ps h), (λ d. derived-parsed d))
@@ -91,3 +98,38 @@ own-notation-has-forms n s h = never-twelve n s h
 
 pub rewritten-once-for-all : RewrittenOnceForAll
 rewritten-once-for-all n s m h = rewriting-again n s m h
+
+-- DEMAND 2, CONVERTING
+
+pub one-factor : OneFactor
+one-factor r q n d x y k l f g = factor-once f g
+
+pub converts-exactly-if : ConvertsExactlyIf
+converts-exactly-if n s m t x y k = gives-converts n s m t x y k
+
+pub conversion-refusals : ConversionRefusals
+conversion-refusals n s m t i h = number-due n s m t i h
+
+pub refused-conversions : RefusedConversions
+refused-conversions n s m t i d = due-refused n s m t d
+
+pub conversion-succeeds : ConversionSucceeds
+conversion-succeeds n s m t = zero-undue n s m t
+
+pub itself-by-one : ItselfByOne
+itself-by-one n s c u = converts-itself n s c u
+
+pub back-by-the-inverse : BackByTheInverse
+back-by-the-inverse n s m t x y k e = converts-inverse n s m t x y k e
+
+pub exponents-bounded : ExponentsBounded
+exponents-bounded n s = bounds.exponents-bounded n s
+
+pub ratios-bounded : RatiosBounded
+ratios-bounded n s m t p w h g = bounds.ratios-bounded n s m t p w h g
+
+pub sizes-give-the-factor : SizesGiveTheFactor
+sizes-give-the-factor r q n d k = sizings.sizes-give-the-factor r q n d k
+
+pub fraction-exactly-if : FractionExactlyIf
+fraction-exactly-if r q = sizings.fraction-exactly-if r q

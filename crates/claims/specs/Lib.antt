@@ -1,1 +1,4 @@
 pub mod Claims
+pub mod Fractions
+pub mod Converting
+pub mod Sizing

@@ -1,0 +1,257 @@
+-- How large the exponents of bases and primes in a reading are.
+use Prim.Native.Nat.{ℕ, zero, suc, _≤_, _<_, _+_, _*_, _-_, _%_}
+use native.Mathlib.Omega.{arith}
+use native.Mathlib.Decide.{decLt}
+use native.Mathlib.Nat.{mul-le-mul, mul-le-mul-right}
+use mathlib.Core.Path.{_≡_, refl, sym, ap, _∙_}
+use mathlib.Core.Bool.{Bool, true, false, _&&_, cond}
+use mathlib.Core.List.{List, [], _∷_, map, List·Memᴰ, List·Memᴰ·head, List·Memᴰ·tail}
+use mathlib.Core.Option.{Option, none, some}
+use lib.Dec.{leb, ltb, eqb}
+use lib.IntN.{ℤ, pos, negsuc, negℤ, natAbs, subℕ, _+ℤ_, _*ℤ_}
+use lib.ListN.{length, getD, length-map}
+use borrow.Author.Tests.{leb-true}
+use Rattle.label.specs.declared.Exponent.{Exponent}
+use Rattle.label.specs.declared.Tens.{Tens}
+use Rattle.label.specs.Choice.{pick}
+use Rattle.label.specs.Prefixes.{Prefix, prefix, prefixes, power-of}
+use Rattle.label.specs.Units.{BasePower, KnownUnit, bare, ten-to, units, unit-at, base-power, in-tens, prime-power}
+use Rattle.label.specs.Symbols.{Symbol, known, unknown}
+use Rattle.label.specs.Lexical.{Written, Factor, Part, no-factor, zeros}
+use Rattle.label.specs.Lexical as lexical
+use Rattle.label.specs.Limits.{Ratio, parts-of-one, largest-exponent, largest-k, signed, exclusive-or, short, in-sixtieths, sixtieths, bounded, exponent-in, exponent-of, ratio, number, tens, k-of}
+use Rattle.label.specs.Split.{Placed, Valued, valued-units, valued-with, valued, seven}
+use Rattle.label.specs.Reading.{Term, term, Reading, base-in, prime-in, total, primes, refusal, reading-of, reading}
+use Rattle.label.proofs.Computing.{answers-compute}
+use Rattle.label.proofs.Basics.{none-some, and-left, and-right}
+use Rattle.label.proofs.Refusals.{Values, valued-values, values-length}
+use Rattle.label.proofs.Readings.{Answered, answer-of, refused-reading, accepted-reading}
+use Rattle.claims.specs.Converting.{base-exponent, prime-exponent, most-of-base, most-of-prime, ExponentsBounded, RatiosBounded}
+use Rattle.claims.proofs.WholeLaws.{neg-size}
+
+-- SIZES OF SUMS AND PRODUCTS
+
+difference : (a b : ℕ) → natAbs (subℕ a (suc b)) ≤ a + suc b
+difference a b = go (ltb a (suc b))
+  where
+    go : (x : Bool) → natAbs (cond x (negsuc (suc b - suc a)) (pos (a - suc b))) ≤ a + suc b
+    go true = omega arith
+    go false = omega arith
+
+size-sum : (a b : ℤ) → natAbs (a +ℤ b) ≤ natAbs a + natAbs b
+size-sum (pos a) (pos b) = omega arith
+size-sum (pos a) (negsuc b) = difference a b
+size-sum (negsuc a) (pos b) = omega (arith, difference b a)
+size-sum (negsuc a) (negsuc b) = omega arith
+
+size-product : (a b : ℤ) → natAbs (a *ℤ b) ≡ natAbs a * natAbs b
+size-product (pos a) (pos b) = refl
+size-product (pos a) (negsuc b) = neg-size (pos (a * suc b))
+size-product (negsuc a) (pos b) = neg-size (pos (suc a * b))
+size-product (negsuc a) (negsuc b) = refl
+
+size-signed : (b : Bool) (n : ℕ) → natAbs (signed b n) ≡ n
+size-signed true n = neg-size (pos n)
+size-signed false n = refl
+
+-- A TEST PASSED BY A WHOLE TABLE
+
+unfoldable pub every-row : {A : Type 0} → (A → Bool) → List A → Bool
+every-row p [] = true
+every-row p (x ∷ xs) = p x && every-row p xs
+
+pub at-row : {A : Type 0} (p : A → Bool) (xs : List A) (d : A) → every-row p xs ≡ true → p d ≡ true → (i : ℕ) → p (getD xs i d) ≡ true
+unfolding every-row
+at-row p [] d e f i = f
+at-row p (x ∷ xs) d e f zero = and-left (p x) (every-row p xs) e
+at-row p (x ∷ xs) d e f (suc i) = at-row p xs d (and-right (p x) (every-row p xs) e) f i
+
+of-row : {A : Type 0} (p : A → Bool) (xs : List A) → every-row p xs ≡ true → (x : A) → List·Memᴰ x xs → p x ≡ true
+unfolding every-row
+of-row p (y ∷ xs) e x (List·Memᴰ·head q) = rw q (and-left (p y) (every-row p xs) e)
+of-row p (y ∷ xs) e x (List·Memᴰ·tail m) = of-row p xs (and-right (p y) (every-row p xs) e) x m
+
+-- PREFIXES AND UNITS
+
+small-prefix : Prefix → Bool
+small-prefix x = leb (natAbs (x .power .0)) 24
+
+prefixes-small : every-row small-prefix prefixes ≡ true
+unfolding every-row small-prefix answers-compute
+prefixes-small = refl
+
+prefix-small : (x : Option ℕ) → natAbs (power-of x .0) ≤ 24
+unfolding small-prefix
+prefix-small none = omega arith
+prefix-small (some i) = leb-true (natAbs (power-of (some i) .0)) 24 (at-row small-prefix prefixes (prefix "" (pos 0)) prefixes-small refl i)
+
+small-unit : ℕ → KnownUnit → Bool
+small-unit p u = leb (natAbs (prime-power p (u .size))) 28
+
+-- the unit past the last row
+unfoldable pub no-unit : KnownUnit
+no-unit = bare [] (ten-to (pos 0) [])
+
+all-small : ℕ → Bool
+all-small p = small-unit p no-unit && every-row (small-unit p) units
+
+primes-small : every-row all-small primes ≡ true
+unfolding every-row all-small small-unit no-unit answers-compute
+primes-small = refl
+
+-- the powers of a size's bases, together
+powers : List BasePower → ℕ
+powers [] = 0
+powers (x ∷ xs) = natAbs (x .power) + powers xs
+
+small-bases : KnownUnit → Bool
+small-bases u = leb (powers (u .size .bases)) 9
+
+bases-small : every-row small-bases units ≡ true
+unfolding every-row small-bases powers answers-compute
+bases-small = refl
+
+unit-small : (p : ℕ) → List·Memᴰ p primes → (u : ℕ) → natAbs (prime-power p (unit-at u .size)) ≤ 28
+unfolding small-unit all-small no-unit
+unit-small p m u =
+    let t = of-row all-small primes primes-small p m in
+    leb-true (natAbs (prime-power p (unit-at u .size))) 28
+    (at-row (small-unit p) units no-unit (and-right (small-unit p no-unit) (every-row (small-unit p) units) t) (and-left (small-unit p no-unit) (every-row (small-unit p) units) t) u)
+
+in-tens-small : (p m : ℕ) (t : Tens) → natAbs (t .0) ≤ m → natAbs (in-tens p t) ≤ m
+in-tens-small p m t h = go (eqb (10 % p) 0)
+  where
+    go : (b : Bool) → natAbs (pick b (t .0) (pos 0)) ≤ m
+    go true = h
+    go false = omega arith
+
+prime-small : (p : ℕ) → List·Memᴰ p primes → (x : Symbol) → natAbs (prime-in p x) ≤ 52
+unfolding prime-in
+prime-small p m (known x u) =
+    omega (arith, size-sum (in-tens p (power-of x)) (prime-power p (unit-at u .size)), in-tens-small p 24 (power-of x) (prefix-small x), unit-small p m u)
+prime-small p m (unknown x l) = omega (arith, in-tens-small p 24 (power-of x) (prefix-small x))
+
+base-power-small : (b : ℕ) (xs : List BasePower) → natAbs (base-power b xs) ≤ powers xs
+unfolding base-power powers
+base-power-small b [] = omega arith
+base-power-small b (x ∷ xs) = go (eqb b (x .base)) (base-power-small b xs)
+  where
+    go : (y : Bool) → natAbs (base-power b xs) ≤ powers xs → natAbs (pick y (x .power) (pos 0) +ℤ base-power b xs) ≤ natAbs (x .power) + powers xs
+    go true h = omega (arith, size-sum (x .power) (base-power b xs))
+    go false h = omega (arith, size-sum (pos 0) (base-power b xs))
+
+base-small : (b : ℕ) (x : Symbol) → natAbs (base-in b x) ≤ 9
+unfolding base-in small-bases no-unit powers
+base-small b (known p u) =
+    omega (arith, base-power-small b (unit-at u .size .bases), leb-true (powers (unit-at u .size .bases)) 9 (at-row small-bases units no-unit bases-small refl u))
+base-small b (unknown p l) = omega arith
+
+-- EXPONENTS AND THEIR SUMS
+
+-- every term's exponent is at most 99
+data Small : List Term → Type 0 where
+  none-left : Small []
+  one-more : {t : Term} {ts : List Term} → natAbs (t .exponent .0) ≤ 5_940 → Small ts → Small (t ∷ ts)
+
+total-small : (f : Symbol → ℤ) (m : ℕ) → ((x : Symbol) → natAbs (f x) ≤ m) → {ts : List Term} → Small ts → natAbs (total f ts .0) ≤ length ts * (m * 5_940)
+unfolding total
+total-small f m h Small.none-left = omega arith
+total-small f m h (Small.one-more {t = t} {ts = ts} e w) =
+    omega (arith, size-sum (f (t .symbol) *ℤ t .exponent .0) (total f ts .0), size-product (f (t .symbol)) (t .exponent .0), mul-le-mul (h (t .symbol)) e, total-small f m h w)
+
+exponent-small : (turned : Bool) (w : Written) (e : Exponent) → exponent-of turned w ≡ some e → natAbs (e .0) ≤ 5_940
+unfolding exponent-of exponent-in
+exponent-small turned w e h = go (ratio w) h
+  where
+    go : (r : Ratio) → exponent-in turned r ≡ some e → natAbs (e .0) ≤ 5_940
+    go r h = by-test (bounded r) refl h
+      where
+        by-test : (b : Bool) → bounded r ≡ b → pick b (some (record { 0 = signed (exclusive-or turned (r .negative)) (sixtieths r) })) none ≡ some e → natAbs (e .0) ≤ 5_940
+        by-test true t h =
+            let x : signed (exclusive-or turned (r .negative)) (sixtieths r) ≡ e .0 = cc in
+            let y = leb-true (sixtieths r) (parts-of-one * largest-exponent) (and-right (in-sixtieths r) (leb (sixtieths r) (parts-of-one * largest-exponent)) (and-right (r .short) (in-sixtieths r && leb (sixtieths r) (parts-of-one * largest-exponent)) t)) in
+            omega (arith, ap natAbs x, size-signed (exclusive-or turned (r .negative)) (sixtieths r), y)
+        by-test false t h = absurd (none-some h)
+
+values-small : (n b : ℕ) {ps : List Part} {us : List Placed} → Values ps us → Small (map (term n b) us)
+unfolding term
+values-small n b Values.no-values = Small.none-left
+values-small n b (Values.value {p = p} {e = e} h vs) = Small.one-more (exponent-small (p .turned) (p .power) e h) (values-small n b vs)
+
+tens-small : (short negative : Bool) (n : ℕ) (k : Tens) → tens short negative n ≡ some k → natAbs (k .0) ≤ 99
+tens-small short negative n k h = go (short && leb n largest-k) refl h
+  where
+    go : (b : Bool) → (short && leb n largest-k) ≡ b → pick b (some (record { 0 = signed negative n })) none ≡ some k → natAbs (k .0) ≤ 99
+    go true t h =
+        let x : signed negative n ≡ k .0 = cc in
+        omega (arith, ap natAbs x, size-signed negative n, leb-true n largest-k (and-right short (leb n largest-k) t))
+    go false t h = absurd (none-some h)
+
+k-small : (f : Factor) (k : Tens) → k-of f ≡ some k → natAbs (k .0) ≤ 99
+unfolding k-of
+k-small no-factor k h = let x : pos 0 ≡ k .0 = cc in omega (arith, ap natAbs x)
+k-small (lexical.ten-to n) k h = tens-small (short (n .digits)) (n .negative) (number (n .digits)) k h
+k-small (zeros n) k h = tens-small true false n k h
+
+valued-k : (f : Factor) (ps : List Part) (v : Valued) → valued f ps ≡ some v → k-of f ≡ some (v .k)
+unfolding valued valued-with
+valued-k f ps v h = go (k-of f) (valued-units ps) refl h
+  where
+    go : (o : Option Tens) (us : Option (List Placed)) → k-of f ≡ o → valued-with o us ≡ some v → k-of f ≡ some (v .k)
+    go none us e h = absurd (none-some h)
+    go (some k) none e h = absurd (none-some h)
+    go (some k) (some us) e h = e ∙ ap (λ (x : Tens). some x) (cc)
+
+-- READINGS
+
+-- at most 32 terms, each exponent small, k small
+record Limited (r : Reading) : Type 0 where
+  pub terms-few : length (r .terms) ≤ 32
+  pub exponents-small : Small (r .terms)
+  pub k-little : natAbs (r .k .0) ≤ 99
+
+refusal-limited : (i : ℕ) → Limited (refusal i)
+unfolding refusal
+refusal-limited i = record { terms-few = omega arith; exponents-small = Small.none-left; k-little = omega arith }
+
+reading-limited : (n b : ℕ) {ps : List Part} (v : Valued) → Values ps (v .units) → length (v .units) ≤ 32 → natAbs (v .k .0) ≤ 99
+    → Limited (reading-of n (v .k) (map (term n b) (v .units)))
+unfolding reading-of
+reading-limited n b v w h g = record { terms-few = rw length-map h; exponents-small = values-small n b w; k-little = g }
+
+limited : (n : ℕ) (s : List ℕ) → Limited (reading n s)
+limited n s = go (answer-of n s)
+  where
+    go : Answered n s → Limited (reading n s)
+    go (Answered.refusing i e d) = rw (refused-reading d) (refusal-limited i)
+    go (Answered.accepting v a) = rw (accepted-reading a) (reading-limited n (length s) v w (few (decLt 32 (length (a .parts)))) (k-small (a .factor) (v .k) (valued-k (a .factor) (a .parts) v (a .within))))
+      where
+        w : Values (a .parts) (v .units)
+        w = valued-values (a .factor) (a .parts) v (a .within)
+
+        few : Dec (32 < length (a .parts)) → length (v .units) ≤ 32
+        few (yes h) = absurd (a .clear 7 (seven (a .factor, a .parts, a .derived, h)))
+        few (no h) = omega (arith, values-length w)
+
+limited-base : (b : ℕ) (r : Reading) → Limited r → natAbs (base-exponent b r) ≤ most-of-base
+limited-base b r l = omega (arith, total-small (base-in b) 9 (base-small b) (l .exponents-small), mul-le-mul-right (9 * 5_940) (l .terms-few))
+
+limited-prime : (p : ℕ) (r : Reading) → List·Memᴰ p primes → Limited r → natAbs (prime-exponent p r) ≤ most-of-prime
+limited-prime p r m l =
+    omega (
+      arith,
+      size-sum (in-tens p (r .k) *ℤ pos parts-of-one) (total (prime-in p) (r .terms) .0),
+      size-product (in-tens p (r .k)) (pos parts-of-one),
+      in-tens-small p 99 (r .k) (l .k-little),
+      total-small (prime-in p) 52 (prime-small p m) (l .exponents-small),
+      mul-le-mul-right (52 * 5_940) (l .terms-few),
+    )
+
+pub exponents-bounded : ExponentsBounded
+exponents-bounded n s = ((λ b. limited-base b (reading n s) (limited n s)), (λ p m. limited-prime p (reading n s) m (limited n s)))
+
+pub ratios-bounded : RatiosBounded
+ratios-bounded n s m t p w h g =
+    let a = prime-exponent p (reading n s) in
+    let b = prime-exponent p (reading m t) in
+    omega (arith, sym (size-product w (pos parts-of-one)) ∙ ap natAbs (g .is), size-sum a (negℤ b), neg-size b, limited-prime p (reading n s) h (limited n s), limited-prime p (reading m t) h (limited m t))

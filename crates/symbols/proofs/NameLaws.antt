@@ -6,7 +6,7 @@ use mathlib.Core.Path.{_≡_, refl, sym, _∙_}
 use mathlib.Core.Bool.{Bool, true, false, _&&_, _||_}
 use mathlib.Core.List.{List, [], _∷_, _++_}
 use mathlib.Core.Option.{Option, some}
-use lib.Dec.{T, leb, eqb, leb→le}
+use lib.Dec.{T, leb, leb→le}
 use lib.ListN.{length, getD, List·getD-map}
 use Rattle.label.proofs.Basics.{both, all-below}
 use Rattle.label.specs.Bytes.{same}
@@ -16,13 +16,13 @@ use Rattle.label.specs.Units.{Name, KnownUnit, units}
 use Rattle.label.specs.Symbols.{has-name, row-named, unit-named}
 use Rattle.symbols.specs.Keys.{most-letters, key-from, key-of, agrees}
 use Rattle.symbols.specs.Sets.{bits, has-bit}
-use Rattle.symbols.specs.Names.{Entry, entries-of, entries-from, names, name-among, name-in}
+use Rattle.symbols.specs.Names.{Entry, entries-of, entries-from, names}
 use Rattle.symbols.specs.Columns.{name-lengths, name-keys, name-notations, name-units, NameColumns}
 use Rattle.symbols.specs.Views.{place}
 use Rattle.symbols.proofs.Computing.{columns-compute}
 use Rattle.symbols.proofs.KeyLaws.{keyable, long-other, Spelled, agrees-spelled}
 use Rattle.symbols.proofs.SetLaws.{alike, told-by-bits, bit-member}
-use Rattle.symbols.proofs.RowLaws.{every, every-at, first, first-none, at-place, Sought, sought-none, sought-all, sought-hit, sought-miss}
+use Rattle.symbols.proofs.RowLaws.{every, every-at, first, first-none, Sought, sought-none, sought-all, sought-hit, sought-miss}
 
 -- THE LIST OF NAMES FINDS WHAT THE TABLE FINDS
 
@@ -196,46 +196,3 @@ module _ {ls ks ns us : List ℕ} {n : ℕ} {l : List ℕ} {size number : ℕ} w
       spelled = w .spelled;
       sought = sought-miss nobody (omega (arith, names-count)) (w .sought) (told ∙ t);
     }
-
--- SEARCHING A NAME OF A UNIT
-
--- this name is one of row u that notation n knows
-unfoldable pub is-name-of : ℕ → ℕ → Entry → Bool
-is-name-of n u x = eqb u (x .unit) && member n (x .known-in)
-
-first-among : (n u i : ℕ) (xs : List Entry) → first (is-name-of n u) at-place i xs ≡ name-among n u i xs
-unfolding first is-name-of name-among
-first-among n u i [] = refl
-first-among n u i (x ∷ xs) = go (eqb u (x .unit) && member n (x .known-in)) (first-among n u (suc i) xs)
-  where
-    go : (b : Bool) → first (is-name-of n u) at-place (suc i) xs ≡ name-among n u (suc i) xs
-        → pick b (some i) (first (is-name-of n u) at-place (suc i) xs)
-        ≡ elim b as (λ (z : Bool). Option ℕ) [ true ↦ some i | false ↦ name-among n u (suc i) xs ]
-    go true ih = refl
-    go false ih = ih
-
--- no name before place i is one of row u that notation n knows
-pub record Looking (n u i : ℕ) : Type 0 where
-  pub sought : Sought (is-name-of n u) at-place names (name-in n u) i
-
-pub look-none : (n u : ℕ) → Looking n u 0
-unfolding name-in
-look-none n u = record { sought = sought-none (first-among n u 0 names) }
-
-pub look-all : (n u i : ℕ) → 67 ≤ i → Looking n u i → place 0 ≡ name-in n u
-unfolding place
-look-all n u i h w = sought-all (omega (arith, names-count)) (w .sought)
-
-module _ {n u i : ℕ} (h : i < 67) (w : Looking n u i) {ns us : List ℕ} (notations-are : ns ≡ name-notations) (units-are : us ≡ name-units)
-    {r : Bool} (e : r ≡ (eqb u (getD us i 0) && has-bit n (getD ns i 0))) where
-  seen : is-name-of n u (entry i) ≡ r
-  unfolding is-name-of
-  seen = sym (e ∙ rw (units-are, row-at i, member-at i n notations-are))
-
-  pub look-hit : r ≡ true → place (i + 1) ≡ name-in n u
-  unfolding place entry
-  look-hit t = rw (add-one i) (sought-hit nobody (omega (arith, names-count)) (w .sought) (seen ∙ t))
-
-  pub look-miss : r ≡ false → Looking n u (i + 1)
-  unfolding entry
-  look-miss t = record { sought = sought-miss nobody (omega (arith, names-count)) (w .sought) (seen ∙ t) }

@@ -9,7 +9,6 @@ ghost use mathlib.Core.Path.{_≡_};
 ghost use mathlib.Core.Bool.{false, _&&_};
 ghost use mathlib.Core.List.{List};
 ghost use Prim.Native.Nat.{ℕ, _≤_, _<_, _+_, _-_};
-ghost use lib.Dec.{eqb};
 ghost use lib.ListN.{length};
 ghost use Rattle.label.specs.Bytes.{run};
 ghost use Rattle.label.specs.Ranges.{between};
@@ -17,8 +16,7 @@ ghost use Rattle.label.specs.Prefixes.{prefix-named};
 ghost use Rattle.label.specs.Symbols.{known, unknown, unit-named, known-cuts, by-cut, by-whole, unquoted, symbol};
 ghost use Rattle.symbols.specs.Keys.{agrees};
 ghost use Rattle.symbols.specs.Sets.{has-bit};
-ghost use Rattle.symbols.specs.Names.{name-in};
-ghost use Rattle.symbols.specs.Columns.{NameColumns, PrefixColumns, name-notations, name-units};
+ghost use Rattle.symbols.specs.Columns.{NameColumns, PrefixColumns};
 ghost use Rattle.symbols.specs.Views.{place, symbol-in, Bounded, UpTo, LettersAt, CutAt};
 
 // How many names and prefixes the tables have, and how many letters a key can hold.
@@ -307,29 +305,4 @@ pub fn symbol(
         start,
         end,
     )
-}
-
-// Whether a name is one of that unit, and notation `n` knows it.
-fn is_name_of(n: u8, unit: u8, name_unit: u8, notations: u8) -> bool
-    ensures { λ r. ⌜ r ≡ (eqb unit «name_unit» && has-bit n notations) ⌝ }
-{
-    if unit == name_unit {
-        return has_notation(n, notations);
-    }
-    false
-}
-
-// One more than the place of the first name of the unit of that row that notation `n` knows, or 0.
-pub fn name_in(notations: &[u8], units: &[u8], n: u8, unit: u8) -> u8
-    requires { ⌜ (now notations ≡ name-notations) × (now units ≡ name-units) ⌝ }
-    ensures { λ r. ⌜ place r ≡ name-in n unit ⌝ }
-{
-    let mut i = 0;
-    while i < NAMES {
-        if is_name_of(n, unit, units[i], notations[i]) {
-            return i as u8 + 1;
-        }
-        i += 1;
-    }
-    0
 }

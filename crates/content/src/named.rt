@@ -1,14 +1,12 @@
 // What the spellings of a label's terms stand for, in a lent array. `names` has the prefixes of 32 terms at 0 to 31, each as one more than its
 // place in the table, or 0; their units at 32 to 63, each as one more than its row, or 0 for an unknown one; and where the letters of an
 // unknown unit start and end in the label, at 64 to 95 and at 96 to 127, both 0 for a known one.
+use symbols::Part;
 use symbols::Symbol;
 use symbols::lookup::symbol;
+use symbols::tables::name_codes;
 use symbols::tables::name_keys;
-use symbols::tables::name_lengths;
-use symbols::tables::name_notations;
-use symbols::tables::name_units;
-use symbols::tables::prefix_keys;
-use symbols::tables::prefix_lengths;
+use symbols::tables::prefix_codes;
 ghost use Prim.Native.Nat.{ℕ, _<_};
 ghost use mathlib.Core.Path.{_≡_};
 ghost use mathlib.Core.List.{List};
@@ -88,29 +86,17 @@ pub fn all_named(
     requires { ⌜ length (now names) ≡ 128 ⌝ }
     ensures { λ _. ⌜ AllNamed n (now (s .entry)) (lent (now (places .entry)) (now (exponents .entry))) (now (names .exit)) ⌝ }
 {
-    let lengths = name_lengths();
     let keys = name_keys();
-    let notations = name_notations();
-    let units = name_units();
-    let prefix_lengths = prefix_lengths();
-    let prefix_keys = prefix_keys();
+    let codes = name_codes();
+    let prefixes = prefix_codes();
     let count = places[64];
     let mut i = 0;
     while i < count {
-        let start = places[i];
-        let end = places[32 + i];
-        let x = symbol(
-            &lengths,
-            &keys,
-            &notations,
-            &units,
-            &prefix_lengths,
-            &prefix_keys,
-            n,
-            s,
-            start,
-            end,
-        );
+        let part = Part {
+            start: places[i],
+            end: places[32 + i],
+        };
+        let x = symbol(&keys, &codes, &prefixes, n, s, part);
         note(names, i, x);
         i += 1;
     }

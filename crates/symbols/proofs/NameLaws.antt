@@ -1,14 +1,15 @@
--- The search of a name: the list of names finds what the table of units finds, and each column tells of each name.
-use Prim.Native.Nat.{ℕ, suc, _+_, _≤_, _<_}
+-- The search of a name: the list of names finds what the table of units finds, and the columns have its key and its code.
+use Prim.Native.Nat.{ℕ, suc, _+_, _/_, _%_, _≤_, _<_}
 use native.Mathlib.Omega.{arith}
 use native.Mathlib.Numerals.{add-one}
 use mathlib.Core.Path.{_≡_, refl, sym, _∙_}
 use mathlib.Core.Bool.{Bool, true, false, _&&_, _||_}
 use mathlib.Core.List.{List, [], _∷_, _++_}
 use mathlib.Core.Option.{Option, some}
-use lib.Dec.{T, leb, leb→le}
+use lib.Dec.{T, leb, eqb, leb→le}
 use lib.ListN.{length, getD, List·getD-map}
-use Rattle.label.proofs.Basics.{both, all-below}
+use borrow.Author.Tests.{eqb-true}
+use Rattle.label.proofs.Basics.{T→true, both, all-below}
 use Rattle.label.specs.Bytes.{same}
 use Rattle.label.specs.Choice.{pick}
 use Rattle.label.specs.Notations.{member}
@@ -17,7 +18,7 @@ use Rattle.label.specs.Symbols.{has-name, row-named, unit-named}
 use Rattle.symbols.specs.Keys.{most-letters, key-from, key-of, agrees}
 use Rattle.symbols.specs.Sets.{bits, has-bit}
 use Rattle.symbols.specs.Names.{Entry, entries-of, entries-from, names}
-use Rattle.symbols.specs.Columns.{name-lengths, name-keys, name-notations, name-units, NameColumns}
+use Rattle.symbols.specs.Columns.{name-keys, name-code, name-codes, NameColumns}
 use Rattle.symbols.specs.Views.{place}
 use Rattle.symbols.proofs.Computing.{columns-compute}
 use Rattle.symbols.proofs.KeyLaws.{keyable, long-other, Spelled, agrees-spelled}
@@ -65,12 +66,17 @@ first-named n l = first-of-rows n l 0 units 0
 
 -- THE TEST OF THE NAMES
 
--- a name that a key can hold, a set that its bits tell, and a row of the table
+coded : Entry → Bool
+coded x =
+    eqb (name-code x / 65536) (length (x .letters))
+    && (eqb (name-code x / 256 % 256) (bits (x .known-in)) && eqb (name-code x % 256) (x .unit))
+
+-- a name that a key can hold, a set that its bits tell, and a row of the table; and a code that has the three in its bytes
 sound : Entry → Bool
-sound x = keyable (x .letters) && (told-by-bits (x .known-in) && leb (x .unit) 60)
+sound x = keyable (x .letters) && ((told-by-bits (x .known-in) && leb (x .unit) 60) && coded x)
 
 names-sound : T (every sound names)
-unfolding every sound keyable told-by-bits all-below alike columns-compute
+unfolding every sound coded keyable told-by-bits all-below alike columns-compute
 names-sound = tt
 
 names-count : length names ≡ 67
@@ -82,7 +88,7 @@ nobody : Entry
 nobody = record { letters = []; known-in = []; unit = 0 }
 
 nobody-sound : T (sound nobody)
-unfolding sound nobody keyable told-by-bits all-below alike columns-compute
+unfolding sound coded nobody keyable told-by-bits all-below alike columns-compute
 nobody-sound = tt
 
 entry : ℕ → Entry
@@ -97,55 +103,49 @@ module _ (i : ℕ) where
   unfolding sound
   letters-sound = both (keyable (entry i .letters)) _ (entry-sound i) .0
 
-  rest-sound : T (told-by-bits (entry i .known-in) && leb (entry i .unit) 60)
+  rest-sound : T ((told-by-bits (entry i .known-in) && leb (entry i .unit) 60) && coded (entry i))
   unfolding sound
   rest-sound = both (keyable (entry i .letters)) _ (entry-sound i) .1
 
+  set-sound : T (told-by-bits (entry i .known-in) && leb (entry i .unit) 60)
+  set-sound = both (told-by-bits (entry i .known-in) && leb (entry i .unit) 60) _ rest-sound .0
+
   unit-sound : entry i .unit ≤ 60
-  unit-sound = leb→le (entry i .unit) 60 (both (told-by-bits (entry i .known-in)) _ rest-sound .1)
+  unit-sound = leb→le (entry i .unit) 60 (both (told-by-bits (entry i .known-in)) _ set-sound .1)
+
+  code-sound : (name-code (entry i) / 65536 ≡ length (entry i .letters))
+      × ((name-code (entry i) / 256 % 256 ≡ bits (entry i .known-in)) × (name-code (entry i) % 256 ≡ entry i .unit))
+  unfolding coded
+  code-sound =
+      let w = both (eqb (name-code (entry i) / 65536) (length (entry i .letters))) _ (both (told-by-bits (entry i .known-in) && leb (entry i .unit) 60) _ rest-sound .1) in
+      let v = both (eqb (name-code (entry i) / 256 % 256) (bits (entry i .known-in))) _ (w .1) in
+      (eqb-true _ _ (T→true _ (w .0)), (eqb-true _ _ (T→true _ (v .0)), eqb-true _ _ (T→true _ (v .1))))
 
   -- THE COLUMNS
-
-  length-at : getD name-lengths i 0 ≡ length (entry i .letters)
-  unfolding name-lengths entry nobody
-  length-at = List·getD-map (λ (x : Entry). length (x .letters)) names i nobody
 
   key-at : getD name-keys i 0 ≡ key-of (entry i .letters)
   unfolding name-keys entry nobody key-from
   key-at = List·getD-map (λ (x : Entry). key-of (x .letters)) names i nobody
 
-  bits-at : getD name-notations i 0 ≡ bits (entry i .known-in)
-  unfolding name-notations entry nobody bits
-  bits-at = List·getD-map (λ (x : Entry). bits (x .known-in)) names i nobody
-
-  row-at : getD name-units i 0 ≡ entry i .unit
-  unfolding name-units entry nobody
-  row-at = List·getD-map (λ (x : Entry). x .unit) names i nobody
+  code-at : getD name-codes i 0 ≡ name-code (entry i)
+  unfolding name-codes entry nobody bits
+  code-at = List·getD-map name-code names i nobody
 
   -- the bits of a name tell which notations know it
-  member-at : (n : ℕ) {ns : List ℕ} → ns ≡ name-notations → has-bit n (getD ns i 0) ≡ member n (entry i .known-in)
-  member-at n e =
-      rw (e, bits-at) (bit-member n (entry i .known-in) (both (told-by-bits (entry i .known-in)) _ rest-sound .0))
+  member-at : (n : ℕ) → has-bit n (bits (entry i .known-in)) ≡ member n (entry i .known-in)
+  member-at n = bit-member n (entry i .known-in) (both (told-by-bits (entry i .known-in)) _ set-sound .0)
 
-  pub unit-room : {us : List ℕ} → us ≡ name-units → getD us i 0 ≤ 60
-  unit-room e = rw (e, row-at) unit-sound
+  pub unit-room : {cs : List ℕ} → cs ≡ name-codes → getD cs i 0 % 256 ≤ 60
+  unit-room e = rw (e, code-at, code-sound .1 .1) unit-sound
 
 -- each column has an element for each name
-pub length-column-count : {ls : List ℕ} → ls ≡ name-lengths → length ls ≡ 67
-unfolding columns-compute
-length-column-count e = rw e
-
 pub key-column-count : {ks : List ℕ} → ks ≡ name-keys → length ks ≡ 67
 unfolding columns-compute
 key-column-count e = rw e
 
-pub notation-column-count : {ns : List ℕ} → ns ≡ name-notations → length ns ≡ 67
+pub code-column-count : {cs : List ℕ} → cs ≡ name-codes → length cs ≡ 67
 unfolding columns-compute
-notation-column-count e = rw e
-
-pub unit-column-count : {us : List ℕ} → us ≡ name-units → length us ≡ 67
-unfolding columns-compute
-unit-column-count e = rw e
+code-column-count e = rw e
 
 -- SEARCHING A UNIT BY ITS NAME
 
@@ -158,38 +158,40 @@ too-long n l h = sym (first-none (is-entry n l) sound row 0 names names-sound ot
     other x t = rw (long-other l (x .letters) h (both (keyable (x .letters)) _ t .0))
 
 -- the columns are lent, the spelling l has that size and key, and no name before place i is l
-pub record Searching (ls ks ns us : List ℕ) (n : ℕ) (l : List ℕ) (size number i : ℕ) : Type 0 where
-  pub columns : NameColumns ls ks ns us
+pub record Searching (ks cs : List ℕ) (n : ℕ) (l : List ℕ) (size number i : ℕ) : Type 0 where
+  pub columns : NameColumns ks cs
   pub spelled : Spelled l size number
   pub sought : Sought (is-entry n l) row names (unit-named n l) i
 
-module _ {ls ks ns us : List ℕ} {n : ℕ} {l : List ℕ} {size number : ℕ} where
-  pub search-none : NameColumns ls ks ns us → Spelled l size number → Searching ls ks ns us n l size number 0
+module _ {ks cs : List ℕ} {n : ℕ} {l : List ℕ} {size number : ℕ} where
+  pub search-none : NameColumns ks cs → Spelled l size number → Searching ks cs n l size number 0
   search-none w v = record { columns = w; spelled = v; sought = sought-none (first-named n l) }
 
-  pub search-all : {i : ℕ} → 67 ≤ i → Searching ls ks ns us n l size number i → place 0 ≡ unit-named n l
+  pub search-all : {i : ℕ} → 67 ≤ i → Searching ks cs n l size number i → place 0 ≡ unit-named n l
   unfolding place
   search-all h w = sought-all (omega (arith, names-count)) (w .sought)
 
-  module _ {i : ℕ} (h : i < 67) (w : Searching ls ks ns us n l size number i) {r : Bool}
-      (e : r ≡ (agrees size number (getD ls i 0) (getD ks i 0) && has-bit n (getD ns i 0))) where
+  module _ {i : ℕ} (h : i < 67) (w : Searching ks cs n l size number i) {r : Bool}
+      (e : r ≡ (agrees size number (getD cs i 0 / 65536) (getD ks i 0) && has-bit n (getD cs i 0 / 256 % 256))) where
     told : is-entry n l (entry i) ≡ r
     unfolding is-entry
     told = sym (e ∙ rw (
-      w .columns .lengths-are,
       w .columns .keys-are,
-      length-at i,
+      w .columns .codes-are,
       key-at i,
+      code-at i,
+      code-sound i .0,
+      code-sound i .1 .0,
       agrees-spelled (w .spelled) (entry i .letters) (letters-sound i),
-      member-at i n (w .columns .notations-are),
+      member-at i n,
     ))
 
-    pub search-hit : r ≡ true → place (getD us i 0 + 1) ≡ unit-named n l
+    pub search-hit : r ≡ true → place (getD cs i 0 % 256 + 1) ≡ unit-named n l
     unfolding place entry
     search-hit t =
-        rw (w .columns .units-are, row-at i, add-one) (sought-hit nobody (omega (arith, names-count)) (w .sought) (told ∙ t))
+        rw (w .columns .codes-are, code-at i, code-sound i .1 .1, add-one) (sought-hit nobody (omega (arith, names-count)) (w .sought) (told ∙ t))
 
-    pub search-miss : r ≡ false → Searching ls ks ns us n l size number (i + 1)
+    pub search-miss : r ≡ false → Searching ks cs n l size number (i + 1)
     unfolding entry
     search-miss t = record {
       columns = w .columns;

@@ -1,17 +1,19 @@
--- The search of a prefix: each column tells of each prefix.
-use Prim.Native.Nat.{ℕ, suc, _+_, _≤_, _<_}
+-- The search of a prefix: the column has a code for each prefix.
+use Prim.Native.Nat.{ℕ, suc, _+_, _/_, _%_, _≤_, _<_}
 use native.Mathlib.Omega.{arith}
 use native.Mathlib.Numerals.{add-one}
 use mathlib.Core.Path.{_≡_, refl, sym, _∙_}
-use mathlib.Core.Bool.{Bool, true, false}
+use mathlib.Core.Bool.{Bool, true, false, _&&_}
 use mathlib.Core.List.{List, [], _∷_}
-use lib.Dec.{T}
+use lib.Dec.{T, eqb}
 use lib.IntN.{pos}
 use lib.ListN.{length, getD, List·getD-map}
+use borrow.Author.Tests.{eqb-true}
+use Rattle.label.proofs.Basics.{T→true, both}
 use Rattle.label.specs.Bytes.{same}
 use Rattle.label.specs.Prefixes.{Prefix, prefixes, placed, prefix-named}
 use Rattle.symbols.specs.Keys.{most-letters, key-from, key-of, agrees}
-use Rattle.symbols.specs.Columns.{prefix-lengths, prefix-keys, PrefixColumns}
+use Rattle.symbols.specs.Columns.{prefix-code, prefix-codes}
 use Rattle.symbols.specs.Views.{place}
 use Rattle.symbols.proofs.Computing.{columns-compute}
 use Rattle.symbols.proofs.KeyLaws.{keyable, long-other, Spelled, agrees-spelled}
@@ -19,8 +21,11 @@ use Rattle.symbols.proofs.RowLaws.{every, every-at, first, first-none, 
 
 -- THE COLUMNS
 
+-- the letters of a prefix have a key of at most two bytes, above which the code has their number
 has-key : Prefix → Bool
-has-key p = keyable (p .name)
+has-key p =
+    keyable (p .name)
+    && (eqb (prefix-code p / 65536) (length (p .name)) && eqb (prefix-code p % 65536) (key-of (p .name)))
 
 prefixes-keyed : T (every has-key prefixes)
 unfolding every has-key keyable columns-compute
@@ -42,26 +47,32 @@ entry : ℕ → Prefix
 entry i = getD prefixes i nothing
 
 module _ (i : ℕ) where
+  entry-keyed : T (has-key (entry i))
+  unfolding entry
+  entry-keyed = every-at has-key prefixes nothing prefixes-keyed nothing-keyed i
+
   letters-keyed : T (keyable (entry i .name))
-  unfolding entry has-key
-  letters-keyed = every-at has-key prefixes nothing prefixes-keyed nothing-keyed i
+  unfolding has-key
+  letters-keyed = both (keyable (entry i .name)) _ entry-keyed .0
 
-  length-at : getD prefix-lengths i 0 ≡ length (entry i .name)
-  unfolding prefix-lengths entry nothing
-  length-at = List·getD-map (λ (p : Prefix). length (p .name)) prefixes i nothing
+  code-keyed : T (eqb (prefix-code (entry i) / 65536) (length (entry i .name)) && eqb (prefix-code (entry i) % 65536) (key-of (entry i .name)))
+  unfolding has-key
+  code-keyed = both (keyable (entry i .name)) _ entry-keyed .1
 
-  key-at : getD prefix-keys i 0 ≡ key-of (entry i .name)
-  unfolding prefix-keys entry nothing key-from
-  key-at = List·getD-map (λ (p : Prefix). key-of (p .name)) prefixes i nothing
+  code-length : prefix-code (entry i) / 65536 ≡ length (entry i .name)
+  code-length = eqb-true _ _ (T→true _ (both (eqb (prefix-code (entry i) / 65536) (length (entry i .name))) _ code-keyed .0))
 
--- each column has an element for each prefix
-pub lengths-count : {ls ks : List ℕ} → PrefixColumns ls ks → length ls ≡ 20
+  code-key : prefix-code (entry i) % 65536 ≡ key-of (entry i .name)
+  code-key = eqb-true _ _ (T→true _ (both (eqb (prefix-code (entry i) / 65536) (length (entry i .name))) _ code-keyed .1))
+
+  code-at : getD prefix-codes i 0 ≡ prefix-code (entry i)
+  unfolding prefix-codes entry nothing key-from
+  code-at = List·getD-map prefix-code prefixes i nothing
+
+-- the column has an element for each prefix
+pub codes-count : {cs : List ℕ} → cs ≡ prefix-codes → length cs ≡ 20
 unfolding columns-compute
-lengths-count w = rw (w .lengths-are)
-
-pub keys-count : {ls ks : List ℕ} → PrefixColumns ls ks → length ks ≡ 20
-unfolding columns-compute
-keys-count w = rw (w .keys-are)
+codes-count e = rw e
 
 -- SEARCHING A PREFIX
 
@@ -82,38 +93,38 @@ first-named l = first-placed 0 l prefixes
 pub too-long : (l : List ℕ) → most-letters < length l → place 0 ≡ prefix-named l
 unfolding place is-prefix has-key
 too-long l h =
-    sym (first-none (is-prefix l) has-key at-place 0 prefixes prefixes-keyed (λ p t. long-other l (p .name) h t)) ∙ first-named l
+    sym (first-none (is-prefix l) has-key at-place 0 prefixes prefixes-keyed (λ p t. long-other l (p .name) h (both (keyable (p .name)) _ t .0))) ∙ first-named l
 
--- the columns are lent, the spelling l has that size and key, and no prefix before place i is l
-pub record Searching (ls ks l : List ℕ) (size number i : ℕ) : Type 0 where
-  pub columns : PrefixColumns ls ks
+-- the column is lent, the spelling l has that size and key, and no prefix before place i is l
+pub record Searching (cs l : List ℕ) (size number i : ℕ) : Type 0 where
+  pub column : cs ≡ prefix-codes
   pub spelled : Spelled l size number
   pub sought : Sought (is-prefix l) at-place prefixes (prefix-named l) i
 
-module _ {ls ks l : List ℕ} {size number : ℕ} where
-  pub search-none : PrefixColumns ls ks → Spelled l size number → Searching ls ks l size number 0
-  search-none w v = record { columns = w; spelled = v; sought = sought-none (first-named l) }
+module _ {cs l : List ℕ} {size number : ℕ} where
+  pub search-none : cs ≡ prefix-codes → Spelled l size number → Searching cs l size number 0
+  search-none w v = record { column = w; spelled = v; sought = sought-none (first-named l) }
 
-  pub search-all : {i : ℕ} → 20 ≤ i → Searching ls ks l size number i → place 0 ≡ prefix-named l
+  pub search-all : {i : ℕ} → 20 ≤ i → Searching cs l size number i → place 0 ≡ prefix-named l
   unfolding place
   search-all h w = sought-all (omega (arith, prefixes-count)) (w .sought)
 
-  module _ {i : ℕ} (h : i < 20) (w : Searching ls ks l size number i) {r : Bool}
-      (e : r ≡ agrees size number (getD ls i 0) (getD ks i 0)) where
+  module _ {i : ℕ} (h : i < 20) (w : Searching cs l size number i) {r : Bool}
+      (e : r ≡ agrees size number (getD cs i 0 / 65536) (getD cs i 0 % 65536)) where
     told : is-prefix l (entry i) ≡ r
     unfolding is-prefix
     told =
-        sym (e ∙ rw (w .columns .lengths-are, w .columns .keys-are, length-at i, key-at i)
+        sym (e ∙ rw (w .column, code-at i, code-length i, code-key i)
         (agrees-spelled (w .spelled) (entry i .name) (letters-keyed i)))
 
     pub search-hit : r ≡ true → place (i + 1) ≡ prefix-named l
     unfolding place entry
     search-hit t = rw (add-one i) (sought-hit nothing (omega (arith, prefixes-count)) (w .sought) (told ∙ t))
 
-    pub search-miss : r ≡ false → Searching ls ks l size number (i + 1)
+    pub search-miss : r ≡ false → Searching cs l size number (i + 1)
     unfolding entry
     search-miss t = record {
-      columns = w .columns;
+      column = w .column;
       spelled = w .spelled;
       sought = sought-miss nothing (omega (arith, prefixes-count)) (w .sought) (told ∙ t);
     }

@@ -16,7 +16,7 @@ use Rattle.label.specs.Prefixes.{prefix-named}
 use Rattle.label.specs.Ranges.{between}
 use Rattle.symbols.specs.declared.Cut.{Cut as Cutting}
 use Rattle.symbols.specs.declared.Symbol.{Symbol as Coded}
-use Rattle.symbols.specs.Views.{place, behind, prefix-cut, unit-cut, Bounded, LettersAt, CutAt, FirstQuote}
+use Rattle.symbols.specs.Views.{place, symbol-in, behind, prefix-cut, unit-cut, Bounded, LettersAt, CutAt, FirstPrefixed, FirstQuote}
 use Rattle.symbols.proofs.CutLaws.{cut-list, two-then-one}
 use Rattle.symbols.proofs.Parts.{part-none, part-cons, part-length, part-take, part-drop}
 
@@ -92,13 +92,7 @@ by-cut-is n l =
 
 -- ONE CUT
 
--- a cut with no prefix
-no-cut : (n k : ℕ) (s : List ℕ) (start end : ℕ) → prefix-cut k (between s start end) ≡ none
-    → CutAt n k s start end (record { prefix = 0; unit = 0 })
-unfolding place unit-cut
-no-cut n k s start end e = record { prefix-is = sym e; unit-is = rw e }
-
-module _ (n k : ℕ) (s : List ℕ) (start end : ℕ) (h : start ≤ end) (g : end ≤ length s) where
+module _ (k : ℕ) (s : List ℕ) (start end : ℕ) (h : start ≤ end) (g : end ≤ length s) where
   none-left : end - start ≤ k → prefix-cut k (between s start end) ≡ none
   unfolding prefix-cut
   none-left f = rw (drop-of-length-le (between s start end) {i = k} (rw (part-length s start end h g) f))
@@ -107,63 +101,90 @@ module _ (n k : ℕ) (s : List ℕ) (start end : ℕ) (h : start ≤ end) (g : e
   unfolding prefix-cut
   some-left f = rw (part-drop s start end k, part-cons s (start + k) end (omega arith) g, part-take s start end k (omega arith))
 
-  pub cut-short : end - start ≤ k → CutAt n k s start end (record { prefix = 0; unit = 0 })
-  cut-short f = no-cut n k s start end (none-left f)
+  -- a cut with no prefix
+  no-cut : prefix-cut k (between s start end) ≡ none → CutAt k s start end (record { prefix = 0; rest = start })
+  unfolding place
+  no-cut e = record { prefix-is = sym e; after = λ f. absurd (omega arith); whole = λ f. refl; from = omega arith; upto = h }
+
+  pub cut-short : end - start ≤ k → CutAt k s start end (record { prefix = 0; rest = start })
+  cut-short f = no-cut (none-left f)
 
   module _ (f : k < end - start) (p : ℕ) (e : place p ≡ prefix-named (between s start (start + k))) where
-    pub cut-other : p ≡ 0 → CutAt n k s start end (record { prefix = 0; unit = 0 })
+    pub cut-other : p ≡ 0 → CutAt k s start end (record { prefix = 0; rest = start })
     unfolding place
-    cut-other z = no-cut n k s start end (some-left f ∙ sym e ∙ ap place z)
+    cut-other z = no-cut (some-left f ∙ sym e ∙ ap place z)
 
-    pub cut-prefix : (p ≡ 0 → ⊥) → (u : ℕ) → place u ≡ unit-named n (between s (start + k) end)
-        → CutAt n k s start end (record { prefix = p; unit = u })
-    unfolding unit-cut
-    cut-prefix z u d =
-        let i : prefix-cut k (between s start end) ≡ some (p - 1) = some-left f ∙ sym e ∙ placed-at p (omega arith) in
-        record { prefix-is = e ∙ sym (some-left f); unit-is = rw (i, part-drop s start end k) d }
+    pub cut-prefix : (p ≡ 0 → ⊥) → CutAt k s start end (record { prefix = p; rest = start + k })
+    cut-prefix z = record {
+      prefix-is = e ∙ sym (some-left f);
+      after = λ x. refl;
+      whole = λ x. absurd (z (omega arith));
+      from = omega arith;
+      upto = omega arith;
+    }
 
-  -- a cut with a prefix leaves letters
-  pub letters-left : {r : Cutting} → CutAt n k s start end r → 0 < r .prefix → k < end - start
-  letters-left {r} w f = go (leb (end - start) k) refl
-    where
-      go : (x : Bool) → leb (end - start) k ≡ x → k < end - start
-      go true e = absurd (none-some (sym (none-left (leb-true (end - start) k e)) ∙ sym (w .prefix-is) ∙ placed-at (r .prefix) f))
-      go false e = leb-false (end - start) k e
+-- what follows a prefix counts
+pub after-prefix : (p : ℕ) → (p ≡ 0 → ⊥) → (o : Option ℕ) → o ≡ behind (place p) o
+after-prefix p z o = rw (placed-at p (omega arith))
+
+-- the unit after a cut, of which u is one more than the row
+unit-after-cut : (n : ℕ) {k : ℕ} {s : List ℕ} {start end : ℕ} {r : Cutting} → CutAt k s start end r → (u : ℕ)
+    → place u ≡ behind (place (r .prefix)) (unit-named n (between s (r .rest) end)) → place u ≡ unit-cut n k (between s start end)
+unfolding unit-cut
+unit-after-cut n {k} {s} {start} {end} {r} w u e = e ∙ go (leb (r .prefix) 0) refl
+  where
+    go : (x : Bool) → leb (r .prefix) 0 ≡ x
+        → behind (place (r .prefix)) (unit-named n (between s (r .rest) end)) ≡ behind (prefix-cut k (between s start end)) (unit-named n (drop k (between s start end)))
+    go true f = rw (← w .prefix-is, placed-none (r .prefix) (leb-true (r .prefix) 0 f))
+    go false f = rw (← w .prefix-is, part-drop s start end k, w .after (leb-false (r .prefix) 0 f))
 
 -- THE CHOICE
 
-module _ {n : ℕ} {s : List ℕ} {start end : ℕ} {two : Cutting} (a : CutAt n 2 s start end two) where
-  pub first-known : 0 < two .unit → known (place (two .prefix)) (two .unit - 1) ≡ by-cut (between s start end) (known-cuts n (between s start end))
+module _ (n : ℕ) {s : List ℕ} {start end : ℕ} {two : Cutting} (a : CutAt 2 s start end two) (u : ℕ)
+    (d : place u ≡ behind (place (two .prefix)) (unit-named n (between s (two .rest) end))) where
+  pub first-known : 0 < u → known (place (two .prefix)) (u - 1) ≡ by-cut (between s start end) (known-cuts n (between s start end))
   unfolding chosen
-  first-known h = sym (by-cut-is n (between s start end) ∙ rw (← a .prefix-is, ← a .unit-is, placed-at (two .unit) h))
+  first-known h = sym (by-cut-is n (between s start end) ∙ rw (← a .prefix-is, ← unit-after-cut n a u d, placed-at u h))
 
-  module _ (z : two .unit ≤ 0) {one : Cutting} (b : CutAt n 1 s start end one) where
+  module _ (z : u ≤ 0) {one : Cutting} (b : CutAt 1 s start end one) (v : ℕ)
+      (e : place v ≡ behind (place (one .prefix)) (unit-named n (between s (one .rest) end))) where
     chosen-is : by-cut (between s start end) (known-cuts n (between s start end))
-        ≡ chosen (between s start end) (place (two .prefix)) none (place (one .prefix)) (place (one .unit))
+        ≡ chosen (between s start end) (place (two .prefix)) none (place (one .prefix)) (place v)
     chosen-is =
         by-cut-is n (between s start end)
-        ∙ rw (← a .prefix-is, ← a .unit-is, ← b .prefix-is, ← b .unit-is, placed-none (two .unit) z)
+        ∙ rw (← a .prefix-is, ← unit-after-cut n a u d, ← b .prefix-is, ← unit-after-cut n b v e, placed-none u z)
 
-    pub second-known : 0 < one .unit → known (place (one .prefix)) (one .unit - 1) ≡ by-cut (between s start end) (known-cuts n (between s start end))
+    pub second-known : 0 < v → known (place (one .prefix)) (v - 1) ≡ by-cut (between s start end) (known-cuts n (between s start end))
     unfolding chosen
-    second-known h = sym (chosen-is ∙ rw (placed-at (one .unit) h))
+    second-known h = sym (chosen-is ∙ rw (placed-at v h))
 
-    module _ (y : one .unit ≤ 0) where
-      pub first-unknown : 0 < two .prefix
-          → unknown (place (two .prefix)) (between s (start + 2) end) ≡ by-cut (between s start end) (known-cuts n (between s start end))
+    module _ (y : v ≤ 0) where
+      first-unknown : 0 < two .prefix
+          → unknown (place (two .prefix)) (between s (two .rest) end) ≡ by-cut (between s start end) (known-cuts n (between s start end))
       unfolding chosen
-      first-unknown h = sym (chosen-is ∙ rw (placed-none (one .unit) y, placed-at (two .prefix) h, part-drop s start end 2))
+      first-unknown h = sym (chosen-is ∙ rw (placed-none v y, placed-at (two .prefix) h, part-drop s start end 2, a .after h))
 
-      pub second-unknown : two .prefix ≤ 0 → 0 < one .prefix
-          → unknown (place (one .prefix)) (between s (start + 1) end) ≡ by-cut (between s start end) (known-cuts n (between s start end))
+      second-unknown : two .prefix ≤ 0 → 0 < one .prefix
+          → unknown (place (one .prefix)) (between s (one .rest) end) ≡ by-cut (between s start end) (known-cuts n (between s start end))
       unfolding chosen
       second-unknown x h =
-          sym (chosen-is ∙ rw (placed-none (one .unit) y, placed-none (two .prefix) x, placed-at (one .prefix) h, part-drop s start end 1))
+          sym (chosen-is ∙ rw (placed-none v y, placed-none (two .prefix) x, placed-at (one .prefix) h, part-drop s start end 1, b .after h))
 
-      pub neither : two .prefix ≤ 0 → one .prefix ≤ 0
-          → unknown (place 0) (between s start end) ≡ by-cut (between s start end) (known-cuts n (between s start end))
-      unfolding chosen place
-      neither x w = sym (chosen-is ∙ rw (placed-none (one .unit) y, placed-none (two .prefix) x, placed-none (one .prefix) w))
+      neither : two .prefix ≤ 0 → one .prefix ≤ 0
+          → unknown (place (one .prefix)) (between s (one .rest) end) ≡ by-cut (between s start end) (known-cuts n (between s start end))
+      unfolding chosen
+      neither x w = sym (chosen-is ∙ rw (placed-none v y, placed-none (two .prefix) x, placed-none (one .prefix) w, b .whole w))
+
+      -- the unknown symbol with the first prefix that there is
+      pub unknown-by-cut : {r : Coded} → FirstPrefixed two one end r
+          → symbol-in s r ≡ by-cut (between s start end) (known-cuts n (between s start end))
+      unknown-by-cut {r} w = go (leb (two .prefix) 0) refl (leb (one .prefix) 0) refl
+        where
+          go : (x : Bool) → leb (two .prefix) 0 ≡ x → (y : Bool) → leb (one .prefix) 0 ≡ y
+              → symbol-in s r ≡ by-cut (between s start end) (known-cuts n (between s start end))
+          go false f t g = let h = leb-false (two .prefix) 0 f in w .first h s ∙ first-unknown h
+          go true f false g = let h = leb-true (two .prefix) 0 f in w .second h s ∙ second-unknown h (leb-false (one .prefix) 0 g)
+          go true f true g = let h = leb-true (two .prefix) 0 f in w .second h s ∙ neither h (leb-true (one .prefix) 0 g)
 
 -- THE WHOLE
 

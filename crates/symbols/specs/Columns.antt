@@ -1,5 +1,5 @@
 -- The columns of the tables, derived from the tables of label/specs, and what it is to be lent them.
-use Prim.Native.Nat.{ℕ}
+use Prim.Native.Nat.{ℕ, _+_, _*_}
 use mathlib.Core.Path.{_≡_}
 use mathlib.Core.Bool.{Bool}
 use mathlib.Core.List.{List, map}
@@ -14,40 +14,32 @@ use Rattle.symbols.specs.Slots.{slot, prime-slot, four-each}
 
 -- NAMES
 
-unfoldable pub name-lengths : List ℕ
-name-lengths = map (λ (x : Entry). length (x .letters)) names
-
 unfoldable pub name-keys : List ℕ
 name-keys = map (λ (x : Entry). key-of (x .letters)) names
 
-unfoldable pub name-notations : List ℕ
-name-notations = map (λ (x : Entry). bits (x .known-in)) names
+-- how many letters a name has, the bits of the notations that know it, and the row of its unit, a byte each
+abbrev pub name-code : Entry → ℕ
+name-code x = (length (x .letters) * 256 + bits (x .known-in)) * 256 + x .unit
 
-unfoldable pub name-units : List ℕ
-name-units = map (λ (x : Entry). x .unit) names
+unfoldable pub name-codes : List ℕ
+name-codes = map name-code names
 
--- the four columns of names
-pub record NameColumns (lengths keys notations units : List ℕ) : Type 0 where
-  pub lengths-are : lengths ≡ name-lengths
+-- the two columns of names
+pub record NameColumns (keys codes : List ℕ) : Type 0 where
   pub keys-are : keys ≡ name-keys
-  pub notations-are : notations ≡ name-notations
-  pub units-are : units ≡ name-units
+  pub codes-are : codes ≡ name-codes
 
 -- PREFIXES
 
-unfoldable pub prefix-lengths : List ℕ
-prefix-lengths = map (λ (p : Prefix). length (p .name)) prefixes
+-- a prefix as one number: how many letters it has, and below that their key, in two bytes
+abbrev pub prefix-code : Prefix → ℕ
+prefix-code p = length (p .name) * 65536 + key-of (p .name)
 
-unfoldable pub prefix-keys : List ℕ
-prefix-keys = map (λ (p : Prefix). key-of (p .name)) prefixes
+unfoldable pub prefix-codes : List ℕ
+prefix-codes = map prefix-code prefixes
 
 unfoldable pub prefix-powers : List ℤ
 prefix-powers = map (λ (p : Prefix). p .power .0) prefixes
-
--- the two columns by which a prefix is found
-pub record PrefixColumns (lengths keys : List ℕ) : Type 0 where
-  pub lengths-are : lengths ≡ prefix-lengths
-  pub keys-are : keys ≡ prefix-keys
 
 -- UNITS
 

@@ -71,10 +71,20 @@ behind (some i) u = u
 unfoldable pub unit-cut : ℕ → ℕ → List ℕ → Option ℕ
 unit-cut n k l = behind (prefix-cut k l) (unit-named n (drop k l))
 
--- the bytes of s from start up to end, cut behind their first k letters
-pub record CutAt (n k : ℕ) (s : List ℕ) (start end : ℕ) (r : Cut) : Type 0 where
+-- the bytes of s from start up to end, cut after their first k letters
+pub record CutAt (k : ℕ) (s : List ℕ) (start end : ℕ) (r : Cut) : Type 0 where
   pub prefix-is : place (r .prefix) ≡ prefix-cut k (between s start end)
-  pub unit-is : place (r .unit) ≡ unit-cut n k (between s start end)
+  pub after : 0 < r .prefix → r .rest ≡ start + k
+  pub whole : r .prefix ≤ 0 → r .rest ≡ start
+  pub from : start ≤ r .rest
+  pub upto : r .rest ≤ end
+
+-- r is unknown, with the prefix and the letters of the first of two cuts that has a prefix, or else with those of the second
+pub record FirstPrefixed (two one : Cut) (end : ℕ) (r : Symbol) : Type 0 where
+  pub first : 0 < two .prefix → (s : List ℕ) → symbol-in s r ≡ unknown (place (two .prefix)) (between s (two .rest) end)
+  pub second : two .prefix ≤ 0 → (s : List ℕ) → symbol-in s r ≡ unknown (place (one .prefix)) (between s (one .rest) end)
+  pub bounded : (start : ℕ) → start ≤ two .rest → start ≤ one .rest → Bounded start end r
+  pub upto : UpTo end r
 
 -- SLOTS
 

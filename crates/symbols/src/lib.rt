@@ -17,10 +17,16 @@ pub struct Symbol {
     pub end: usize,
 }
 
-// A spelling cut behind its first letters.
+// The bytes of a label from `start` up to `end`.
+pub struct Part {
+    pub start: usize,
+    pub end: usize,
+}
+
+// A spelling cut after its first letters.
 pub struct Cut {
     // One more than the place of the prefix that these letters are; 0 where they are none or nothing follows them.
     pub prefix: u8,
-    // One more than the row of the unit that the letters behind the prefix name; 0 where they name none.
-    pub unit: u8,
+    // Where the rest starts: after the prefix, or where the spelling starts if there is none.
+    pub rest: usize,
 }

@@ -1,5 +1,6 @@
 // The lookup of a spelling by the rule of the first fit. The columns of the tables are lent by the caller.
 use crate::Cut;
+use crate::Part;
 use crate::Symbol;
 use crate::spelling::first_quote;
 use crate::spelling::has_notation;
@@ -8,7 +9,7 @@ use crate::spelling::same_symbol;
 ghost use mathlib.Core.Path.{_≡_};
 ghost use mathlib.Core.Bool.{false, _&&_};
 ghost use mathlib.Core.List.{List};
-ghost use Prim.Native.Nat.{ℕ, _≤_, _<_, _+_, _-_};
+ghost use Prim.Native.Nat.{ℕ, _≤_, _<_, _+_, _-_, _/_, _%_};
 ghost use lib.ListN.{length};
 ghost use Rattle.label.specs.Bytes.{run};
 ghost use Rattle.label.specs.Ranges.{between};
@@ -16,8 +17,8 @@ ghost use Rattle.label.specs.Prefixes.{prefix-named};
 ghost use Rattle.label.specs.Symbols.{known, unknown, unit-named, known-cuts, by-cut, by-whole, unquoted, symbol};
 ghost use Rattle.symbols.specs.Keys.{agrees};
 ghost use Rattle.symbols.specs.Sets.{has-bit};
-ghost use Rattle.symbols.specs.Columns.{NameColumns, PrefixColumns};
-ghost use Rattle.symbols.specs.Views.{place, symbol-in, Bounded, UpTo, LettersAt, CutAt};
+ghost use Rattle.symbols.specs.Columns.{NameColumns, prefix-codes};
+ghost use Rattle.symbols.specs.Views.{place, symbol-in, Bounded, UpTo, LettersAt, behind, CutAt, FirstPrefixed};
 
 // How many names and prefixes the tables have, and how many letters a key can hold.
 const NAMES: usize = 67;
@@ -26,28 +27,19 @@ const PREFIXES: usize = 20;
 
 const MOST_LETTERS: usize = 8;
 
-// Whether notation `n` knows a spelling by a name of the table.
-fn is_name(n: u8, size: usize, number: u64, name_size: u8, name_number: u64, notations: u8) -> bool
-    ensures { λ r. ⌜ r ≡ (agrees size number «name_size» «name_number» && has-bit n notations) ⌝ }
+// Whether notation `n` knows a spelling by the name of that key and code.
+fn is_name(n: u8, size: usize, number: u64, key: u64, code: u32) -> bool
+    ensures { λ r. ⌜ r ≡ (agrees size number (code / 65536) key && has-bit n (code / 256 % 256)) ⌝ }
 {
-    if same_symbol(size, number, name_size, name_number) {
-        return has_notation(n, notations);
+    if same_symbol(size, number, (code / 65536) as usize, key) {
+        return has_notation(n, (code / 256 % 256) as u8);
     }
     false
 }
 
 // One more than the row of the unit that notation `n` knows by the spelling from `start` up to `end`, or 0.
-pub fn unit_named(
-    lengths: &[u8],
-    keys: &[u64],
-    notations: &[u8],
-    units: &[u8],
-    n: u8,
-    s: &[u8],
-    start: usize,
-    end: usize,
-) -> u8
-    requires { ⌜ NameColumns (now lengths) (now keys) (now notations) (now units) ⌝ }
+pub fn unit_named(keys: &[u64], codes: &[u32], n: u8, s: &[u8], start: usize, end: usize) -> u8
+    requires { ⌜ NameColumns (now keys) (now codes) ⌝ }
     requires { ⌜ (start ≤ end) × (end ≤ length (now s)) ⌝ }
     ensures { λ r. ⌜ place r ≡ unit-named n (between (now (s .entry)) start end) ⌝ }
 {
@@ -58,17 +50,25 @@ pub fn unit_named(
     let number = key(s, start, end);
     let mut i = 0;
     while i < NAMES {
-        if is_name(n, size, number, lengths[i], keys[i], notations[i]) {
-            return units[i] + 1;
+        let code = codes[i];
+        if is_name(n, size, number, keys[i], code) {
+            return (code % 256) as u8 + 1;
         }
         i += 1;
     }
     0
 }
 
+// Whether a spelling is the prefix of that code.
+fn is_prefix(size: usize, number: u64, code: u32) -> bool
+    ensures { λ r. ⌜ r ≡ agrees size number (code / 65536) (code % 65536) ⌝ }
+{
+    same_symbol(size, number, (code / 65536) as usize, (code % 65536) as u64)
+}
+
 // One more than the place of the prefix that the spelling from `start` up to `end` is, or 0.
-pub fn prefix_named(lengths: &[u8], keys: &[u64], s: &[u8], start: usize, end: usize) -> u8
-    requires { ⌜ PrefixColumns (now lengths) (now keys) ⌝ }
+pub fn prefix_named(prefixes: &[u32], s: &[u8], start: usize, end: usize) -> u8
+    requires { ⌜ now prefixes ≡ prefix-codes ⌝ }
     requires { ⌜ (start ≤ end) × (end ≤ length (now s)) ⌝ }
     ensures { λ r. ⌜ place r ≡ prefix-named (between (now (s .entry)) start end) ⌝ }
 {
@@ -79,7 +79,7 @@ pub fn prefix_named(lengths: &[u8], keys: &[u64], s: &[u8], start: usize, end: u
     let number = key(s, start, end);
     let mut i = 0;
     while i < PREFIXES {
-        if same_symbol(size, number, lengths[i], keys[i]) {
+        if is_prefix(size, number, prefixes[i]) {
             return i as u8 + 1;
         }
         i += 1;
@@ -117,192 +117,127 @@ fn unknown_symbol(prefix: u8, start: usize, end: usize) -> Symbol
     }
 }
 
-// The spelling from `start` up to `end`, cut behind its first `count` letters.
-fn cut(
-    lengths: &[u8],
-    keys: &[u64],
-    notations: &[u8],
-    units: &[u8],
-    prefix_lengths: &[u8],
-    prefix_keys: &[u64],
-    n: u8,
-    s: &[u8],
-    start: usize,
-    end: usize,
-    count: usize,
-) -> Cut
-    requires { ⌜ NameColumns (now lengths) (now keys) (now notations) (now units) ⌝ }
-    requires { ⌜ PrefixColumns (now «prefix_lengths») (now «prefix_keys») ⌝ }
-    requires { ⌜ (start ≤ end) × (end ≤ length (now s)) ⌝ }
-    ensures { λ r. ⌜ CutAt n count (now (s .entry)) start end r ⌝ }
+// The prefix that the first `count` letters of a spelling are, where letters follow them.
+fn cut(prefixes: &[u32], s: &[u8], part: Part, count: usize) -> Cut
+    requires { ⌜ now prefixes ≡ prefix-codes ⌝ }
+    requires { ⌜ (part .start ≤ part .end) × (part .end ≤ length (now s)) ⌝ }
+    ensures { λ r. ⌜ CutAt count (now (s .entry)) (part .start) (part .end) r ⌝ }
 {
-    if end - start <= count {
-        return Cut { prefix: 0, unit: 0 };
+    if part.end - part.start <= count {
+        return Cut {
+            prefix: 0,
+            rest: part.start,
+        };
     }
-    let middle = start + count;
-    let prefix = prefix_named(prefix_lengths, prefix_keys, s, start, middle);
+    let middle = part.start + count;
+    let prefix = prefix_named(prefixes, s, part.start, middle);
     if prefix == 0 {
-        return Cut { prefix: 0, unit: 0 };
+        return Cut {
+            prefix: 0,
+            rest: part.start,
+        };
     }
-    let unit = unit_named(lengths, keys, notations, units, n, s, middle, end);
-    Cut { prefix, unit }
+    Cut {
+        prefix,
+        rest: middle,
+    }
+}
+
+// One more than the row of the unit that the letters after a prefix name, or 0. Without a prefix it is 0.
+fn unit_after(keys: &[u64], codes: &[u32], n: u8, s: &[u8], cut: Cut, end: usize) -> u8
+    requires { ⌜ NameColumns (now keys) (now codes) ⌝ }
+    requires { ⌜ (cut .rest ≤ end) × (end ≤ length (now s)) ⌝ }
+    ensures { λ r. ⌜ place r ≡ behind (place (cut .prefix)) (unit-named n (between (now (s .entry)) (cut .rest) end)) ⌝ }
+{
+    if cut.prefix == 0 {
+        return 0;
+    }
+    unit_named(keys, codes, n, s, cut.rest, end)
+}
+
+// The unknown symbol with the prefix of the first cut that has one, or without a prefix.
+fn first_prefixed(two: Cut, one: Cut, end: usize) -> Symbol
+    requires { ⌜ (two .rest ≤ end) × (one .rest ≤ end) ⌝ }
+    ensures { λ r. ⌜ FirstPrefixed two one end r ⌝ }
+{
+    if 0 < two.prefix {
+        return unknown_symbol(two.prefix, two.rest, end);
+    }
+    unknown_symbol(one.prefix, one.rest, end)
 }
 
 // The symbol of a spelling that is not known whole: a prefix and a known rest, the longest prefix, or neither.
-fn by_cut(
-    lengths: &[u8],
-    keys: &[u64],
-    notations: &[u8],
-    units: &[u8],
-    prefix_lengths: &[u8],
-    prefix_keys: &[u64],
-    n: u8,
-    s: &[u8],
-    start: usize,
-    end: usize,
-) -> Symbol
-    requires { ⌜ NameColumns (now lengths) (now keys) (now notations) (now units) ⌝ }
-    requires { ⌜ PrefixColumns (now «prefix_lengths») (now «prefix_keys») ⌝ }
-    requires { ⌜ (start ≤ end) × (end ≤ length (now s)) ⌝ }
+fn by_cut(keys: &[u64], codes: &[u32], prefixes: &[u32], n: u8, s: &[u8], part: Part) -> Symbol
+    requires { ⌜ NameColumns (now keys) (now codes) ⌝ }
+    requires { ⌜ now prefixes ≡ prefix-codes ⌝ }
+    requires { ⌜ (part .start ≤ part .end) × (part .end ≤ length (now s)) ⌝ }
     ensures { λ r. ⌜ symbol-in (now (s .entry)) r
-        ≡ by-cut (between (now (s .entry)) start end) (known-cuts n (between (now (s .entry)) start end)) ⌝ }
-    ensures { λ r. ⌜ Bounded start end r × UpTo end r ⌝ }
+        ≡ by-cut (between (now (s .entry)) (part .start) (part .end)) (known-cuts n (between (now (s .entry)) (part .start) (part .end))) ⌝ }
+    ensures { λ r. ⌜ Bounded (part .start) (part .end) r × UpTo (part .end) r ⌝ }
 {
-    let two = cut(
-        lengths,
-        keys,
-        notations,
-        units,
-        prefix_lengths,
-        prefix_keys,
-        n,
-        s,
-        start,
-        end,
-        2,
-    );
-    if 0 < two.unit {
-        return known_symbol(two.prefix, two.unit);
+    let two = cut(prefixes, s, part, 2);
+    let after_two = unit_after(keys, codes, n, s, two, part.end);
+    if 0 < after_two {
+        return known_symbol(two.prefix, after_two);
     }
-    let one = cut(
-        lengths,
-        keys,
-        notations,
-        units,
-        prefix_lengths,
-        prefix_keys,
-        n,
-        s,
-        start,
-        end,
-        1,
-    );
-    if 0 < one.unit {
-        return known_symbol(one.prefix, one.unit);
+    let one = cut(prefixes, s, part, 1);
+    let after_one = unit_after(keys, codes, n, s, one, part.end);
+    if 0 < after_one {
+        return known_symbol(one.prefix, after_one);
     }
-    if 0 < two.prefix {
-        return unknown_symbol(two.prefix, start + 2, end);
-    }
-    if 0 < one.prefix {
-        return unknown_symbol(one.prefix, start + 1, end);
-    }
-    unknown_symbol(0, start, end)
+    first_prefixed(two, one, part.end)
 }
 
 // The symbol of a spelling without quotes: known whole, or by its cuts.
 fn unquoted_symbol(
-    lengths: &[u8],
     keys: &[u64],
-    notations: &[u8],
-    units: &[u8],
-    prefix_lengths: &[u8],
-    prefix_keys: &[u64],
+    codes: &[u32],
+    prefixes: &[u32],
     n: u8,
     s: &[u8],
-    start: usize,
-    end: usize,
+    part: Part,
 ) -> Symbol
-    requires { ⌜ NameColumns (now lengths) (now keys) (now notations) (now units) ⌝ }
-    requires { ⌜ PrefixColumns (now «prefix_lengths») (now «prefix_keys») ⌝ }
-    requires { ⌜ (start ≤ end) × (end ≤ length (now s)) ⌝ }
+    requires { ⌜ NameColumns (now keys) (now codes) ⌝ }
+    requires { ⌜ now prefixes ≡ prefix-codes ⌝ }
+    requires { ⌜ (part .start ≤ part .end) × (part .end ≤ length (now s)) ⌝ }
     ensures { λ r. ⌜ symbol-in (now (s .entry)) r
-        ≡ by-whole n (between (now (s .entry)) start end) (unit-named n (between (now (s .entry)) start end)) ⌝ }
-    ensures { λ r. ⌜ Bounded start end r × UpTo end r ⌝ }
+        ≡ by-whole n (between (now (s .entry)) (part .start) (part .end)) (unit-named n (between (now (s .entry)) (part .start) (part .end))) ⌝ }
+    ensures { λ r. ⌜ Bounded (part .start) (part .end) r × UpTo (part .end) r ⌝ }
 {
-    let whole = unit_named(lengths, keys, notations, units, n, s, start, end);
+    let whole = unit_named(keys, codes, n, s, part.start, part.end);
     if 0 < whole {
         return known_symbol(0, whole);
     }
-    by_cut(
-        lengths,
-        keys,
-        notations,
-        units,
-        prefix_lengths,
-        prefix_keys,
-        n,
-        s,
-        start,
-        end,
-    )
+    by_cut(keys, codes, prefixes, n, s, part)
 }
 
 // The symbol of a spelling with a quote at `quote`: the prefix before the quote, and the letters up to the next quote.
-fn quoted_symbol(
-    prefix_lengths: &[u8],
-    prefix_keys: &[u64],
-    s: &[u8],
-    start: usize,
-    quote: usize,
-    end: usize,
-) -> Symbol
-    requires { ⌜ PrefixColumns (now «prefix_lengths») (now «prefix_keys») ⌝ }
-    requires { ⌜ (start ≤ quote) × ((quote < end) × (end ≤ length (now s))) ⌝ }
+fn quoted_symbol(prefixes: &[u32], s: &[u8], part: Part, quote: usize) -> Symbol
+    requires { ⌜ now prefixes ≡ prefix-codes ⌝ }
+    requires { ⌜ (part .start ≤ quote) × ((quote < part .end) × (part .end ≤ length (now s))) ⌝ }
     ensures { λ r. ⌜ symbol-in (now (s .entry)) r
-        ≡ unknown (prefix-named (between (now (s .entry)) start quote))
-        (run unquoted (between (now (s .entry)) (quote + 1) end)) ⌝ }
-    ensures { λ r. ⌜ Bounded start end r × (r .start ≡ quote + 1) ⌝ }
+        ≡ unknown (prefix-named (between (now (s .entry)) (part .start) quote))
+        (run unquoted (between (now (s .entry)) (quote + 1) (part .end))) ⌝ }
+    ensures { λ r. ⌜ Bounded (part .start) (part .end) r × (r .start ≡ quote + 1) ⌝ }
 {
-    let prefix = prefix_named(prefix_lengths, prefix_keys, s, start, quote);
+    let prefix = prefix_named(prefixes, s, part.start, quote);
     let first = quote + 1;
-    let last = first_quote(s, first, end);
+    let last = first_quote(s, first, part.end);
     unknown_symbol(prefix, first, last)
 }
 
-// The symbol that the spelling from `start` up to `end` stands for in notation `n`.
-pub fn symbol(
-    lengths: &[u8],
-    keys: &[u64],
-    notations: &[u8],
-    units: &[u8],
-    prefix_lengths: &[u8],
-    prefix_keys: &[u64],
-    n: u8,
-    s: &[u8],
-    start: usize,
-    end: usize,
-) -> Symbol
-    requires { ⌜ NameColumns (now lengths) (now keys) (now notations) (now units) ⌝ }
-    requires { ⌜ PrefixColumns (now «prefix_lengths») (now «prefix_keys») ⌝ }
-    requires { ⌜ (start ≤ end) × (end ≤ length (now s)) ⌝ }
-    ensures { λ r. ⌜ symbol-in (now (s .entry)) r ≡ symbol n (between (now (s .entry)) start end) ⌝ }
-    ensures { λ r. ⌜ Bounded start end r ⌝ }
-    ensures { λ r. ⌜ (r .known ≡ false → LettersAt (now (s .entry)) start end (r .start) (r .end)) ⌝ }
+// The symbol that a spelling of the label stands for in notation `n`.
+pub fn symbol(keys: &[u64], codes: &[u32], prefixes: &[u32], n: u8, s: &[u8], part: Part) -> Symbol
+    requires { ⌜ NameColumns (now keys) (now codes) ⌝ }
+    requires { ⌜ now prefixes ≡ prefix-codes ⌝ }
+    requires { ⌜ (part .start ≤ part .end) × (part .end ≤ length (now s)) ⌝ }
+    ensures { λ r. ⌜ symbol-in (now (s .entry)) r ≡ symbol n (between (now (s .entry)) (part .start) (part .end)) ⌝ }
+    ensures { λ r. ⌜ Bounded (part .start) (part .end) r ⌝ }
+    ensures { λ r. ⌜ (r .known ≡ false → LettersAt (now (s .entry)) (part .start) (part .end) (r .start) (r .end)) ⌝ }
 {
-    let quote = first_quote(s, start, end);
-    if quote < end {
-        return quoted_symbol(prefix_lengths, prefix_keys, s, start, quote, end);
+    let quote = first_quote(s, part.start, part.end);
+    if quote < part.end {
+        return quoted_symbol(prefixes, s, part, quote);
     }
-    unquoted_symbol(
-        lengths,
-        keys,
-        notations,
-        units,
-        prefix_lengths,
-        prefix_keys,
-        n,
-        s,
-        start,
-        end,
-    )
+    unquoted_symbol(keys, codes, prefixes, n, s, part)
 }

@@ -25,11 +25,11 @@ pub fn key(s: &[u8], start: usize, end: usize) -> u64
 
 // Whether a spelling of that size and key is a symbol of a table, of which size and key are given too.
 // This is the one place where a spelling is compared with a symbol.
-pub fn same_symbol(size: usize, number: u64, symbol_size: u8, symbol_number: u64) -> bool
+pub fn same_symbol(size: usize, number: u64, symbol_size: usize, symbol_number: u64) -> bool
     ensures { λ r. ⌜ r ≡ agrees size number «symbol_size» «symbol_number» ⌝ }
 {
     if number == symbol_number {
-        return size == symbol_size as usize;
+        return size == symbol_size;
     }
     false
 }

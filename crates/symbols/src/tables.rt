@@ -1,80 +1,9 @@
 // The columns of the tables of names, prefixes and units. Each is derived from the tables of label/specs.
 // A column is made anew at each call: take it once for a label, and lend it.
 ghost use mathlib.Core.Path.{_≡_};
-ghost use Rattle.symbols.specs.Columns.{name-lengths, name-keys, name-notations, name-units};
-ghost use Rattle.symbols.specs.Columns.{prefix-lengths, prefix-keys, prefix-powers};
+ghost use Rattle.symbols.specs.Columns.{name-keys, name-codes};
+ghost use Rattle.symbols.specs.Columns.{prefix-codes, prefix-powers};
 ghost use Rattle.symbols.specs.Columns.{unit-prefixed, unit-recommended, unit-bases, unit-powers, unit-primes};
-
-// How many letters each name has.
-const NAME_LENGTHS: [u8; 67] = [
-    1, // m
-    1, // g
-    1, // s
-    1, // A
-    1, // K
-    3, // mol
-    2, // cd
-    3, // rad
-    2, // sr
-    2, // Hz
-    1, // N
-    2, // Pa
-    1, // J
-    1, // W
-    1, // C
-    1, // V
-    1, // S
-    1, // F
-    2, // Wb
-    1, // T
-    1, // H
-    2, // lm
-    2, // lx
-    3, // min
-    1, // h
-    1, // d
-    2, // yr
-    1, // a
-    3, // deg
-    6, // arcmin
-    6, // arcsec
-    2, // AU
-    2, // pc
-    2, // eV
-    2, // Jy
-    4, // barn
-    3, // mag
-    4, // byte
-    3, // mas
-    5, // pixel
-    3, // pix
-    5, // count
-    2, // ct
-    2, // Ry
-    7, // solMass
-    6, // solLum
-    6, // solRad
-    1, // D
-    3, // Sun
-    3, // bit
-    3, // ohm
-    3, // Ohm
-    3, // erg
-    1, // G
-    3, // lyr
-    6, // photon
-    2, // ph
-    4, // chan
-    3, // bin
-    5, // voxel
-    1, // u
-    1, // R
-    3, // adu
-    4, // beam
-    8, // angstrom
-    8, // Angstrom
-    1, // %
-];
 
 // Each name as one number in base 256, first letter highest.
 const NAME_KEYS: [u64; 67] = [
@@ -147,194 +76,99 @@ const NAME_KEYS: [u64; 67] = [
     37, // %
 ];
 
-// The notations that know each name, as a set of bits.
-const NAME_NOTATIONS: [u8; 67] = [
-    15, // m
-    15, // g
-    15, // s
-    15, // A
-    15, // K
-    15, // mol
-    15, // cd
-    15, // rad
-    15, // sr
-    15, // Hz
-    15, // N
-    15, // Pa
-    15, // J
-    15, // W
-    15, // C
-    15, // V
-    15, // S
-    15, // F
-    15, // Wb
-    15, // T
-    15, // H
-    15, // lm
-    15, // lx
-    15, // min
-    15, // h
-    15, // d
-    15, // yr
-    13, // a
-    15, // deg
-    15, // arcmin
-    15, // arcsec
-    15, // AU
-    15, // pc
-    15, // eV
-    15, // Jy
-    15, // barn
-    15, // mag
-    15, // byte
-    13, // mas
-    11, // pixel
-    13, // pix
-    11, // count
-    13, // ct
-    13, // Ry
-    13, // solMass
-    13, // solLum
-    13, // solRad
-    13, // D
-    13, // Sun
-    13, // bit
-    2, // ohm
-    13, // Ohm
-    11, // erg
-    11, // G
-    11, // lyr
-    11, // photon
-    9, // ph
-    11, // chan
-    11, // bin
-    11, // voxel
-    9, // u
-    9, // R
-    9, // adu
-    9, // beam
-    10, // angstrom
-    9, // Angstrom
-    4, // %
+// For each name how many letters it has, the notations that know it as a set of bits, and the row of its unit: a byte each.
+const NAME_CODES: [u32; 67] = [
+    0x01_0f_00, // m
+    0x01_0f_01, // g
+    0x01_0f_02, // s
+    0x01_0f_03, // A
+    0x01_0f_04, // K
+    0x03_0f_05, // mol
+    0x02_0f_06, // cd
+    0x03_0f_07, // rad
+    0x02_0f_08, // sr
+    0x02_0f_09, // Hz
+    0x01_0f_0a, // N
+    0x02_0f_0b, // Pa
+    0x01_0f_0c, // J
+    0x01_0f_0d, // W
+    0x01_0f_0e, // C
+    0x01_0f_0f, // V
+    0x01_0f_10, // S
+    0x01_0f_11, // F
+    0x02_0f_12, // Wb
+    0x01_0f_13, // T
+    0x01_0f_14, // H
+    0x02_0f_15, // lm
+    0x02_0f_16, // lx
+    0x03_0f_17, // min
+    0x01_0f_18, // h
+    0x01_0f_19, // d
+    0x02_0f_1a, // yr
+    0x01_0d_1a, // a
+    0x03_0f_1b, // deg
+    0x06_0f_1c, // arcmin
+    0x06_0f_1d, // arcsec
+    0x02_0f_1e, // AU
+    0x02_0f_1f, // pc
+    0x02_0f_20, // eV
+    0x02_0f_21, // Jy
+    0x04_0f_22, // barn
+    0x03_0f_23, // mag
+    0x04_0f_24, // byte
+    0x03_0d_25, // mas
+    0x05_0b_26, // pixel
+    0x03_0d_26, // pix
+    0x05_0b_27, // count
+    0x02_0d_27, // ct
+    0x02_0d_28, // Ry
+    0x07_0d_29, // solMass
+    0x06_0d_2a, // solLum
+    0x06_0d_2b, // solRad
+    0x01_0d_2c, // D
+    0x03_0d_2d, // Sun
+    0x03_0d_2e, // bit
+    0x03_02_2f, // ohm
+    0x03_0d_2f, // Ohm
+    0x03_0b_30, // erg
+    0x01_0b_31, // G
+    0x03_0b_32, // lyr
+    0x06_0b_33, // photon
+    0x02_09_33, // ph
+    0x04_0b_34, // chan
+    0x03_0b_35, // bin
+    0x05_0b_36, // voxel
+    0x01_09_37, // u
+    0x01_09_38, // R
+    0x03_09_39, // adu
+    0x04_09_3a, // beam
+    0x08_0a_3b, // angstrom
+    0x08_09_3b, // Angstrom
+    0x01_04_3c, // %
 ];
 
-// The row of the unit that each name names.
-const NAME_UNITS: [u8; 67] = [
-    0, // m
-    1, // g
-    2, // s
-    3, // A
-    4, // K
-    5, // mol
-    6, // cd
-    7, // rad
-    8, // sr
-    9, // Hz
-    10, // N
-    11, // Pa
-    12, // J
-    13, // W
-    14, // C
-    15, // V
-    16, // S
-    17, // F
-    18, // Wb
-    19, // T
-    20, // H
-    21, // lm
-    22, // lx
-    23, // min
-    24, // h
-    25, // d
-    26, // yr
-    26, // a
-    27, // deg
-    28, // arcmin
-    29, // arcsec
-    30, // AU
-    31, // pc
-    32, // eV
-    33, // Jy
-    34, // barn
-    35, // mag
-    36, // byte
-    37, // mas
-    38, // pixel
-    38, // pix
-    39, // count
-    39, // ct
-    40, // Ry
-    41, // solMass
-    42, // solLum
-    43, // solRad
-    44, // D
-    45, // Sun
-    46, // bit
-    47, // ohm
-    47, // Ohm
-    48, // erg
-    49, // G
-    50, // lyr
-    51, // photon
-    51, // ph
-    52, // chan
-    53, // bin
-    54, // voxel
-    55, // u
-    56, // R
-    57, // adu
-    58, // beam
-    59, // angstrom
-    59, // Angstrom
-    60, // %
-];
-
-// How many letters each prefix has.
-const PREFIX_LENGTHS: [u8; 20] = [
-    2, // da
-    1, // h
-    1, // k
-    1, // M
-    1, // G
-    1, // T
-    1, // P
-    1, // E
-    1, // Z
-    1, // Y
-    1, // d
-    1, // c
-    1, // m
-    1, // u
-    1, // n
-    1, // p
-    1, // f
-    1, // a
-    1, // z
-    1, // y
-];
-
-// Each prefix as one number in base 256, first letter highest.
-const PREFIX_KEYS: [u64; 20] = [
-    25697, // da
-    104, // h
-    107, // k
-    77, // M
-    71, // G
-    84, // T
-    80, // P
-    69, // E
-    90, // Z
-    89, // Y
-    100, // d
-    99, // c
-    109, // m
-    117, // u
-    110, // n
-    112, // p
-    102, // f
-    97, // a
-    122, // z
-    121, // y
+// Each prefix as one number: how many letters it has, and below that its letters, a byte each in the lowest two.
+const PREFIX_CODES: [u32; 20] = [
+    0x26461, // da
+    0x10068, // h
+    0x1006b, // k
+    0x1004d, // M
+    0x10047, // G
+    0x10054, // T
+    0x10050, // P
+    0x10045, // E
+    0x1005a, // Z
+    0x10059, // Y
+    0x10064, // d
+    0x10063, // c
+    0x1006d, // m
+    0x10075, // u
+    0x1006e, // n
+    0x10070, // p
+    0x10066, // f
+    0x10061, // a
+    0x1007a, // z
+    0x10079, // y
 ];
 
 // The power of ten that each prefix multiplies by.
@@ -1235,40 +1069,22 @@ const UNIT_PRIMES: [i8; 244] = [
     0,
 ];
 
-pub fn name_lengths() -> [u8; 67]
-    ensures { λ r. ⌜ r ≡ name-lengths ⌝ }
-{
-    NAME_LENGTHS
-}
-
 pub fn name_keys() -> [u64; 67]
     ensures { λ r. ⌜ r ≡ name-keys ⌝ }
 {
     NAME_KEYS
 }
 
-pub fn name_notations() -> [u8; 67]
-    ensures { λ r. ⌜ r ≡ name-notations ⌝ }
+pub fn name_codes() -> [u32; 67]
+    ensures { λ r. ⌜ r ≡ name-codes ⌝ }
 {
-    NAME_NOTATIONS
+    NAME_CODES
 }
 
-pub fn name_units() -> [u8; 67]
-    ensures { λ r. ⌜ r ≡ name-units ⌝ }
+pub fn prefix_codes() -> [u32; 20]
+    ensures { λ r. ⌜ r ≡ prefix-codes ⌝ }
 {
-    NAME_UNITS
-}
-
-pub fn prefix_lengths() -> [u8; 20]
-    ensures { λ r. ⌜ r ≡ prefix-lengths ⌝ }
-{
-    PREFIX_LENGTHS
-}
-
-pub fn prefix_keys() -> [u64; 20]
-    ensures { λ r. ⌜ r ≡ prefix-keys ⌝ }
-{
-    PREFIX_KEYS
+    PREFIX_CODES
 }
 
 pub fn prefix_powers() -> [i8; 20]

@@ -4,8 +4,14 @@ use borrow.Author.Needs.{needs}
 use Rattle.symbols.proofs.lookup.is_name.Statement.{statement}
 use Rattle.symbols.proofs.lookup.is_name.Tie as tie
 
+cast-same-symbol : tie.Need-cast-same-symbol
+cast-same-symbol c = search needs
+
 same-symbol-requires : tie.Need-same-symbol-requires
 same-symbol-requires c κs = search needs
+
+cast-has-notation : tie.Need-cast-has-notation
+cast-has-notation c = search needs
 
 has-notation-requires : tie.Need-has-notation-requires
 has-notation-requires c κs = search needs
@@ -17,4 +23,12 @@ returns-2 : tie.Need-returns-2
 returns-2 c = rw (sym (c .before .same-symbol .ensures) ∙ c .if1 .left)
 
 pub is-name-spec : {M : Type 1} → statement M
-is-name-spec = tie.close (tie.spec same-symbol-requires has-notation-requires returns returns-2)
+is-name-spec =
+    tie.close
+    (tie.spec
+    cast-same-symbol
+    same-symbol-requires
+    cast-has-notation
+    has-notation-requires
+    returns
+    returns-2)

@@ -1,4 +1,4 @@
--- `symbols::lookup::quoted_symbol` meets its contract: the prefix before the quote, and the letters behind it.
+-- `symbols::lookup::quoted_symbol` meets its contract: the prefix before the quote, and the letters after it.
 use native.Mathlib.Omega.{arith}
 use mathlib.Core.Path.{_∙_}
 use Rattle.symbols.proofs.SymbolLaws.{wider}

@@ -1,3 +1,4 @@
+-- `symbols::lookup::symbol` meets its contract: with a quote or without.
 use mathlib.Core.Path.{_∙_}
 use Rattle.symbols.proofs.SymbolLaws.{with-quote, without-quote, letters-quoted, letters-plain}
 use borrow.Author.Needs.{needs}
@@ -13,13 +14,13 @@ quoted-symbol-requires c κs = search needs
 returns : tie.Need-returns
 returns c = (
   c .quoted-symbol .ensures .0
-      ∙ with-quote _ (c .before .before .before .before .before .before .before .before .before .before .pre .1 .1 .1)
-      (c .before .before .first-quote .ensures) (c .before .if1 .taken),
+      ∙ with-quote _ (c .before .before .before .before .before .before .before .before .pre .1 .1 .1)
+      (c .before .before .before .first-quote .ensures) (c .before .if1 .taken),
   (
     c .quoted-symbol .ensures .1 .0,
     λ e.
-        letters-quoted (c .before .before .before .before .before .before .before .before .before .before .pre .1 .1 .1)
-        (c .before .before .first-quote .ensures) (c .before .if1 .taken) _ (c .quoted-symbol .ensures .1 .1),
+        letters-quoted (c .before .before .before .before .before .before .before .before .pre .1 .1 .1)
+        (c .before .before .before .first-quote .ensures) (c .before .if1 .taken) _ (c .quoted-symbol .ensures .1 .1),
   ),
 )
 
@@ -29,13 +30,13 @@ unquoted-symbol-requires c κs = search needs
 returns-2 : tie.Need-returns-2
 returns-2 c = (
   c .unquoted-symbol .ensures .0
-      ∙ without-quote _ (c .before .before .before .before .before .before .before .before .before .before .pre .1 .1 .1)
-      (c .before .before .first-quote .ensures) (c .before .if1 .left),
+      ∙ without-quote _ (c .before .before .before .before .before .before .before .before .pre .1 .1 .1)
+      (c .before .before .before .first-quote .ensures) (c .before .if1 .left),
   (
     c .unquoted-symbol .ensures .1 .0,
     λ e.
-        letters-plain (c .before .before .before .before .before .before .before .before .before .before .pre .1 .1 .1)
-        (c .before .before .first-quote .ensures) (c .before .if1 .left) _ (c .unquoted-symbol .ensures .1 .1 .last e),
+        letters-plain (c .before .before .before .before .before .before .before .before .pre .1 .1 .1)
+        (c .before .before .before .first-quote .ensures) (c .before .if1 .left) _ (c .unquoted-symbol .ensures .1 .1 .last e),
   ),
 )
 

@@ -1,3 +1,4 @@
+-- `symbols::lookup::unit_named` meets its contract: each turn of the loop is one of `NameLaws`.
 use Prim.Native.Nat.{_-_}
 use native.Mathlib.Omega.{arith}
 use borrow.Author.Needs.{needs}
@@ -5,22 +6,22 @@ use Rattle.label.specs.Ranges.{between}
 use Rattle.symbols.proofs.Parts.{part-length}
 use Rattle.symbols.proofs.KeyLaws.{spelled-part}
 use Rattle.symbols.proofs.NameLaws.{Searching, search-none, search-hit, search-miss, search-all, too-long, unit-room}
-use Rattle.symbols.proofs.NameLaws.{length-column-count, key-column-count, notation-column-count, unit-column-count}
+use Rattle.symbols.proofs.NameLaws.{key-column-count, code-column-count}
 use Rattle.symbols.proofs.lookup.unit_named.Statement.{statement}
 use Rattle.symbols.proofs.lookup.unit_named.Tie as tie
 
 abbrev Inv-loop : tie.InvT-loop
-Inv-loop lengths keys notations units n s start end size number i₀ i = Searching lengths keys notations units n (between s start end) size number i
+Inv-loop keys codes n s start end size number i₀ i = Searching keys codes n (between s start end) size number i
 
 abbrev μ-loop : tie.MeasureT-loop
-μ-loop lengths keys notations units n s start end size number i₀ i = 67 - i
+μ-loop keys codes n s start end size number i₀ i = 67 - i
 
 sub-size : tie.Need-sub-size Inv-loop μ-loop
 sub-size c = omega arith
 
 returns : tie.Need-returns Inv-loop μ-loop
 returns c =
-    let start = c .before .before .before .before .before .before in
+    let start = c .before .before .before .before in
     too-long _ _ (rw (part-length _ _ _ (start .pre .1 .0) (start .pre .1 .1)) (c .if1 .taken))
 
 key-requires : tie.Need-key-requires Inv-loop μ-loop
@@ -28,38 +29,36 @@ key-requires c κs = search needs
 
 loop-holds : tie.Need-loop-holds Inv-loop μ-loop
 loop-holds c =
-    let start = c .before .before .before .before .before .before .before in
+    let start = c .before .before .before .before .before in
     let a = start .args in
     search-none (start .pre .0)
-    (spelled-part (a .s .now) (a .start) (a .end) (start .pre .1 .0) (start .pre .1 .1) (c .before .before .shared-slice-known5 .given) _ (c .key .ensures))
+    (spelled-part (a .s .now) (a .start) (a .end) (start .pre .1 .0) (start .pre .1 .1) (c .before .before .shared-slice-known3 .given) _ (c .key .ensures))
 
-shared-slice-read-is-name : tie.Need-shared-slice-read-is-name Inv-loop μ-loop
-shared-slice-read-is-name c = omega (arith, length-column-count (c .before .before .loop .inv .columns .lengths-are))
+mul-code : tie.Need-mul-code Inv-loop μ-loop
+mul-code c = omega arith
+
+shared-slice-read-code : tie.Need-shared-slice-read-code Inv-loop μ-loop
+shared-slice-read-code c = omega (arith, code-column-count (c .before .before .loop .inv .columns .codes-are))
 
 mul-is-name : tie.Need-mul-is-name Inv-loop μ-loop
 mul-is-name c = omega arith
 
-shared-slice-read-is-name-2 : tie.Need-shared-slice-read-is-name-2 Inv-loop μ-loop
-shared-slice-read-is-name-2 c = omega (arith, key-column-count (c .before .before .before .loop .inv .columns .keys-are))
-
-shared-slice-read-is-name-3 : tie.Need-shared-slice-read-is-name-3 Inv-loop μ-loop
-shared-slice-read-is-name-3 c = omega (arith, notation-column-count (c .before .before .before .before .loop .inv .columns .notations-are))
+shared-slice-read-is-name : tie.Need-shared-slice-read-is-name Inv-loop μ-loop
+shared-slice-read-is-name c = omega (arith, key-column-count (c .before .before .before .loop .inv .columns .keys-are))
 
 is-name-requires : tie.Need-is-name-requires Inv-loop μ-loop
 is-name-requires c κs = search needs
 
-shared-slice-read-result : tie.Need-shared-slice-read-result Inv-loop μ-loop
-shared-slice-read-result c = omega (arith, unit-column-count (c .before .before .before .before .before .before .before .loop .inv .columns .units-are))
+cast-result : tie.Need-cast-result Inv-loop μ-loop
+cast-result c = omega arith
 
 add-result : tie.Need-add-result Inv-loop μ-loop
 add-result c =
-    let loop = c .before .before .before .before .before .before .before .loop in
-    omega (arith, unit-room (loop .i) (loop .inv .columns .units-are))
+    let loop = c .before .before .before .before .before .loop in
+    omega (arith, unit-room (loop .i) (loop .inv .columns .codes-are))
 
 returns-2 : tie.Need-returns-2 Inv-loop μ-loop
-returns-2 c = search-hit (c .before .before .before .before .before .before .loop-test .taken)
-    (c .before .before .before .before .before .before .before .loop .inv)
-    (c .before .before .is-name .ensures) (c .before .if2 .taken)
+returns-2 c = search-hit (c .before .before .before .before .loop-test .taken) (c .before .before .before .before .before .loop .inv) (c .before .is-name .ensures) (c .if2 .taken)
 
 add-i : tie.Need-add-i Inv-loop μ-loop
 add-i c = omega arith
@@ -68,9 +67,7 @@ loop-less : tie.Need-loop-less Inv-loop μ-loop
 loop-less c = omega arith
 
 loop-again : tie.Need-loop-again Inv-loop μ-loop
-loop-again c = search-miss (c .before .before .before .before .before .loop-test .taken)
-    (c .before .before .before .before .before .before .loop .inv)
-    (c .before .is-name .ensures) (c .if2 .left)
+loop-again c = search-miss (c .before .before .before .before .loop-test .taken) (c .before .before .before .before .before .loop .inv) (c .before .is-name .ensures) (c .if2 .left)
 
 returns-3 : tie.Need-returns-3 Inv-loop μ-loop
 returns-3 c = search-all (c .loop-test .left) (c .before .loop .inv)
@@ -85,12 +82,12 @@ unit-named-spec =
     returns
     key-requires
     loop-holds
-    shared-slice-read-is-name
+    mul-code
+    shared-slice-read-code
     mul-is-name
-    shared-slice-read-is-name-2
-    shared-slice-read-is-name-3
+    shared-slice-read-is-name
     is-name-requires
-    shared-slice-read-result
+    cast-result
     add-result
     returns-2
     add-i

@@ -1,4 +1,3 @@
 pub mod Slices
 pub mod Scanning
-pub mod PrefixNames
 pub mod Spellings

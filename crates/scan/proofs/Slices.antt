@@ -47,11 +47,6 @@ between-cons s a e h g =
 pub between-one : (s : List ℕ) (a : ℕ) → a < length s → between s a (a + 1) ≡ getD s a 0 ∷ []
 between-one s a h = rw (between-cons s a (a + 1) (omega arith) (omega arith), between-none s (a + 1))
 
-pub between-two : (s : List ℕ) (a : ℕ) → a + 1 < length s → between s a (a + 2) ≡ getD s a 0 ∷ getD s (a + 1) 0 ∷ []
-between-two s a h =
-    let x : a + 2 ≡ a + 1 + 1 = omega arith in
-    rw (x, between-cons s a (a + 1 + 1) (omega arith) (omega arith), between-one s (a + 1) h)
-
 -- the last byte of a part
 pub between-more : (s : List ℕ) (a e : ℕ) → a ≤ e → e < length s → between s a (e + 1) ≡ between s a e ++ (getD s e 0 ∷ [])
 between-more s a e h g = rw (← between-join s a e (e + 1) h (omega arith), between-one s e g)

@@ -1,18 +1,19 @@
 -- Spellings at a place of the text, one law for each way through the code.
-use Prim.Native.Nat.{ℕ, _≤_, _<_, _+_}
+use Prim.Native.Nat.{ℕ, zero, suc, _≤_, _<_, _+_}
 use native.Mathlib.Omega.{arith}
-use mathlib.Core.Path.{_≡_, refl, sym, _∙_}
+use mathlib.Core.Path.{_≡_, refl, sym, ap, _∙_}
 use mathlib.Core.Bool.{Bool, true, false, _&&_}
 use mathlib.Core.List.{List, [], _∷_, _++_}
-use lib.Dec.{eqb}
+use lib.Dec.{eqb, ltb}
 use lib.ListN.{length, drop, getD}
-use borrow.Author.Tests.{ne-eqb, eqb-true}
+use borrow.Author.Tests.{ne-eqb, eqb-true, lt-ltb}
 use Rattle.label.specs.declared.Rules.{Rules}
 use Rattle.label.specs.Bytes.{percent, quote, letter}
 use Rattle.label.specs.Parse.{Found, none, found, byte, quoted-on, quoted, lettered, spelling}
-use Rattle.label.specs.Prefixes.{prefix-name}
+use Rattle.label.specs.Prefixes.{is-some, prefix-named, prefix-name}
 use Rattle.label.specs.Ranges.{between}
 use Rattle.label.proofs.Basics.{false-true, and-left}
+use Rattle.symbols.specs.Views.{place}
 use Rattle.scan.specs.Runs.{Run}
 use Rattle.scan.specs.Spellings.{QuoteAt, Told, Quoted, Lettered, Spelled}
 use Rattle.scan.specs.declared.spelling.Spelling.{Spelling}
@@ -76,6 +77,12 @@ module _ {s : List ℕ} {a q : ℕ} (w : QuoteAt s a q) {e : ℕ} (l : Run lette
 -- a quote, where the rules have quotes
 pub quote-at : (b : Bool) {s : List ℕ} {a q : ℕ} → a ≤ q → q < length s → (eqb (getD s q 0) quote && b) ≡ true → QuoteAt s a q
 quote-at b {s} {a} {q} h g f = record { forward = h; within = g; is = eqb-true _ _ (and-left (eqb (getD s q 0) quote) b f) }
+
+-- a prefix is named exactly if it has a place in the table
+pub prefix-placed : (p : ℕ) (l : List ℕ) → place p ≡ prefix-named l → ltb 0 p ≡ prefix-name l
+unfolding place prefix-name
+prefix-placed zero l e = ap is-some e
+prefix-placed (suc i) l e = rw (lt-ltb 0 (suc i) (omega arith)) (ap is-some e)
 
 -- LETTERS, OR A QUOTED SPELLING THAT THEY BEGIN
 

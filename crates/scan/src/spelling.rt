@@ -1,11 +1,12 @@
-// Spellings: letters, letters in quotes, a percent sign; and names of prefixes.
+// Spellings: letters, letters in quotes, a percent sign.
 use crate::class::both;
 use crate::class::is_letter;
 use crate::run::letters;
 use label::Rules;
+use symbols::lookup::prefix_named;
+use symbols::tables::prefix_codes;
 ghost use Prim.Native.Nat.{_≤_, _<_};
 ghost use mathlib.Core.Path.{_≡_};
-ghost use mathlib.Core.List.{[], _∷_};
 ghost use lib.ListN.{length};
 ghost use Rattle.label.specs.Prefixes.{prefix-name};
 ghost use Rattle.label.specs.Ranges.{between};
@@ -17,31 +18,13 @@ pub struct Spelling {
     pub end: usize,
 }
 
-// A letter that is the name of a prefix. Neighbours in the alphabet stand in two arms, so that no arm has a range.
-pub fn is_prefix_letter(c: u8) -> bool
-    ensures { λ r. ⌜ r ≡ prefix-name (c ∷ []) ⌝ }
-{
-    match c {
-        b'h' | b'k' | b'M' | b'G' | b'T' | b'P' | b'E' | b'Z' => true,
-        b'Y' | b'd' | b'm' | b'u' | b'p' | b'f' | b'a' | b'z' => true,
-        b'c' | b'n' | b'y' => true,
-        _ => false,
-    }
-}
-
 // Whether the bytes from `start` up to `end` are the name of a prefix.
 pub fn is_prefix_name(s: &[u8], start: usize, end: usize) -> bool
     requires { ⌜ (start ≤ end) × (end ≤ length (now s)) ⌝ }
     ensures { λ r. ⌜ r ≡ prefix-name (between (now (s .entry)) start end) ⌝ }
 {
-    let count = end - start;
-    if count == 1 {
-        return is_prefix_letter(s[start]);
-    }
-    if count == 2 {
-        return both(s[start] == b'd', s[start + 1] == b'a');
-    }
-    false
+    let prefixes = prefix_codes();
+    0 < prefix_named(&prefixes, s, start, end)
 }
 
 // Letters and a closing quote, behind the quote at `at`. The spelling starts at `start`: a prefix may stand there.

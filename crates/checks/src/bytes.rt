@@ -9,7 +9,7 @@ pub fn all_admitted(s: &[u8]) -> bool
 {
     let mut i = 0;
     while i < s.len() {
-        if !between(s[i], 32, 126) {
+        if !between(s[i], b' ', b'~') {
             return false;
         }
         i += 1;

@@ -10,7 +10,7 @@ use borrow.Author.Tests.{ne-eqb, not-true, not-false}
 use Rattle.label.specs.declared.Rules.{Rules}
 use Rattle.label.specs.declared.WrittenFactor.{WrittenFactor}
 use Rattle.label.specs.declared.WrittenFactor.the-variants.{Absent}
-use Rattle.label.specs.Bytes.{digit}
+use Rattle.label.specs.Bytes.{slash, space, digit}
 use Rattle.label.specs.Lexical.{no-factor, Part, Kind, item, quotient}
 use Rattle.label.specs.Parse.{Found, none, found, factor, Parsed, refused, parsed, ended, one-space, gap, factored, label-by, fuel, read, parse-by}
 use Rattle.label.specs.Ranges.{factor-in, FactorInside}
@@ -33,11 +33,11 @@ module _ {s : List ℕ} {at : ℕ} where
   unfolding one-space
   one-space₁ h g = record { rest = rw (beyond s at g); from = omega arith; within = h }
 
-  pub one-space₂ : at < length s → getD s at 0 ≡ 32 → OneSpace s at (at + 1)
+  pub one-space₂ : at < length s → getD s at 0 ≡ space → OneSpace s at (at + 1)
   unfolding one-space
   one-space₂ h e = record { rest = sym (ap one-space (here s at h) ∙ (rw e)); from = omega arith; within = omega arith }
 
-  pub one-space₃ : at < length s → (getD s at 0 ≡ 32 → ⊥) → OneSpace s at at
+  pub one-space₃ : at < length s → (getD s at 0 ≡ space → ⊥) → OneSpace s at at
   unfolding one-space
   one-space₃ h e = record { rest = here s at h ∙ sym (ap one-space (here s at h) ∙ (rw (ne-eqb _ _ e))); from = omega arith; within = omega arith }
 
@@ -108,25 +108,25 @@ module _ (r : Rules) (f g : List ℕ → Found (List Part)) where
   by-nothing [] h = refl
   by-nothing (c ∷ u) h = absurd (omega arith)
 
-  by-space : (s : List ℕ) → 0 < length s → getD s 0 0 ≡ 32 → label-by f g r s ≡ refused
+  by-space : (s : List ℕ) → 0 < length s → getD s 0 0 ≡ space → label-by f g r s ≡ refused
   unfolding label-by
   by-space [] h e = absurd (omega arith)
   by-space (c ∷ u) h e = rw e
 
-  by-digit : (s : List ℕ) → 0 < length s → (getD s 0 0 ≡ 32 → ⊥) → (digit (getD s 0 0) && r .factor) ≡ true → label-by f g r s ≡ factored g r (factor r s)
+  by-digit : (s : List ℕ) → 0 < length s → (getD s 0 0 ≡ space → ⊥) → (digit (getD s 0 0) && r .factor) ≡ true → label-by f g r s ≡ factored g r (factor r s)
   unfolding label-by
   by-digit [] h n e = absurd (omega arith)
-  by-digit (c ∷ u) h n e = rw (ne-eqb c 32 n, e)
+  by-digit (c ∷ u) h n e = rw (ne-eqb c space n, e)
 
-  by-slash : (s : List ℕ) → 0 < length s → (getD s 0 0 ≡ 32 → ⊥) → (digit (getD s 0 0) && r .factor) ≡ false → (eqb (getD s 0 0) 47 && r .lead) ≡ true → label-by f g r s ≡ ended no-factor (f (drop 1 s))
+  by-slash : (s : List ℕ) → 0 < length s → (getD s 0 0 ≡ space → ⊥) → (digit (getD s 0 0) && r .factor) ≡ false → (eqb (getD s 0 0) slash && r .lead) ≡ true → label-by f g r s ≡ ended no-factor (f (drop 1 s))
   unfolding label-by
   by-slash [] h n e q = absurd (omega arith)
-  by-slash (c ∷ u) h n e q = rw (ne-eqb c 32 n, e, q)
+  by-slash (c ∷ u) h n e q = rw (ne-eqb c space n, e, q)
 
-  by-rest : (s : List ℕ) → 0 < length s → (getD s 0 0 ≡ 32 → ⊥) → (digit (getD s 0 0) && r .factor) ≡ false → (eqb (getD s 0 0) 47 && r .lead) ≡ false → label-by f g r s ≡ ended no-factor (g s)
+  by-rest : (s : List ℕ) → 0 < length s → (getD s 0 0 ≡ space → ⊥) → (digit (getD s 0 0) && r .factor) ≡ false → (eqb (getD s 0 0) slash && r .lead) ≡ false → label-by f g r s ≡ ended no-factor (g s)
   unfolding label-by
   by-rest [] h n e q = absurd (omega arith)
-  by-rest (c ∷ u) h n e q = rw (ne-eqb c 32 n, e, q)
+  by-rest (c ∷ u) h n e q = rw (ne-eqb c space n, e, q)
 
 -- a digit, where a factor may lead
 digit-factor : (c : ℕ) (f : Bool) {x y : Bool} → x ≡ digit c → y ≡ (x && f) → y ≡ (digit c && f)
@@ -138,11 +138,11 @@ module _ {r : Rules} {s : List ℕ} where
   label₁ h w = record { tells = record { parts = []; is = by-nothing r _ _ s h; holds = λ _. holds-none w s; inside = tt } }
 
   module _ (h : length s ≡ 0 → ⊥) where
-    pub label₂ : {t : Lent} {o : LabelRead} → getD s 0 0 ≡ 32 → o ≡ no-label → ReadsLabel r s t o
+    pub label₂ : {t : Lent} {o : LabelRead} → getD s 0 0 ≡ space → o ≡ no-label → ReadsLabel r s t o
     unfolding parse-by
     label₂ e q = rw q (record { tells = record { parts = []; is = by-space r _ _ s (omega arith) e; holds = λ x. absurd (false-true x); inside = tt } })
 
-    module _ (n : getD s 0 0 ≡ 32 → ⊥) {x y : Bool} (k : x ≡ digit (getD s 0 0)) (d : y ≡ (x && r .factor)) where
+    module _ (n : getD s 0 0 ≡ space → ⊥) {x y : Bool} (k : x ≡ digit (getD s 0 0)) (d : y ≡ (x && r .factor)) where
       pub label₃ : {t : Lent} {o : LabelRead} → y ≡ true → ReadsFactored r s t o → ReadsLabel r s t o
       unfolding parse-by
       label₃ e w = record {
@@ -154,7 +154,7 @@ module _ {r : Rules} {s : List ℕ} where
         };
       }
 
-      module _ (e : y ≡ false) {b : Bool} (q : b ≡ (eqb (getD s 0 0) 47 && r .lead)) where
+      module _ (e : y ≡ false) {b : Bool} (q : b ≡ (eqb (getD s 0 0) slash && r .lead)) where
         pub label₄ : {t u : Lent} {p : ℕ} {o : LabelRead} → b ≡ true → Empty t → Stepped item r true s 1 t u p → Ended s Absent p o → ReadsLabel r s u o
         unfolding parse-by
         label₄ {t} {u} {p} {o} z w a v = record { tells = tells-ended item r true s 1 t u Absent p o _ w tt a v (by-slash r _ _ s (omega arith) n (sym (digit-factor (getD s 0 0) (r .factor) k d) ∙ e) (sym q ∙ z)) }

@@ -82,7 +82,7 @@ pub fn read_item(
     if s.len() <= at {
         return 0;
     }
-    if s[at] == 40 {
+    if s[at] == b'(' {
         return read_group(r, s, at + 1, turned, places, exponents);
     }
     unit(r, s, at, turned, places, exponents)

@@ -39,10 +39,10 @@ pub fn padded(r: Rules, s: &[u8], at: usize) -> usize
 pub fn is_separator(r: Rules, c: u8) -> bool
     ensures { λ o. ⌜ o ≡ separates r c ⌝ }
 {
-    if both(c == 42, r.star) {
+    if both(c == b'*', r.star) {
         return true;
     }
-    both(c == 46, r.point)
+    both(c == b'.', r.point)
 }
 
 // A product by spaces alone.
@@ -57,7 +57,7 @@ pub fn spaced(r: Rules, s: &[u8], at: usize) -> Joint
             next: at,
         };
     }
-    if both(s[at] == 32, r.space) {
+    if both(s[at] == b' ', r.space) {
         return Joint {
             found: true,
             over: false,
@@ -92,7 +92,7 @@ pub fn join_at(r: Rules, s: &[u8], at: usize) -> Joint
             next: padded(r, s, p + 1),
         };
     }
-    if both(c == 47, r.each) {
+    if both(c == b'/', r.each) {
         return Joint {
             found: true,
             over: true,
@@ -119,7 +119,7 @@ pub fn leading_slash(r: Rules, s: &[u8], at: usize) -> Leading
             next: at,
         };
     }
-    if both(s[p] == 47, r.each) {
+    if both(s[p] == b'/', r.each) {
         return Leading {
             found: true,
             next: padded(r, s, p + 1),
@@ -142,5 +142,5 @@ pub fn last_slash(r: Rules, s: &[u8], at: usize, over: bool) -> bool
     if s.len() <= at {
         return false;
     }
-    both(s[at] == 47, !r.each)
+    both(s[at] == b'/', !r.each)
 }

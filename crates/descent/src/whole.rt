@@ -37,7 +37,7 @@ pub fn one_space(s: &[u8], at: usize) -> usize
     if s.len() <= at {
         return at;
     }
-    if s[at] == 32 {
+    if s[at] == b' ' {
         return at + 1;
     }
     at
@@ -107,13 +107,13 @@ pub fn read_label(
         };
     }
     let c = s[0];
-    if c == 32 {
+    if c == b' ' {
         return no_label();
     }
     if both(is_digit(c), r.factor) {
         return factored(r, s, places, exponents);
     }
-    if both(c == 47, r.lead) {
+    if both(c == b'/', r.lead) {
         let i = read_item(r, s, 1, true, places, exponents);
         return ended(s, WrittenFactor::Absent, i);
     }

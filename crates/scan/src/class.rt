@@ -26,30 +26,30 @@ pub fn between(c: u8, low: u8, high: u8) -> bool
 pub fn is_letter(c: u8) -> bool
     ensures { λ r. ⌜ r ≡ letter c ⌝ }
 {
-    if between(c, 65, 90) {
+    if between(c, b'A', b'Z') {
         return true;
     }
-    between(c, 97, 122)
+    between(c, b'a', b'z')
 }
 
 pub fn is_digit(c: u8) -> bool
     ensures { λ r. ⌜ r ≡ digit c ⌝ }
 {
-    between(c, 48, 57)
+    between(c, b'0', b'9')
 }
 
 pub fn is_nonzero(c: u8) -> bool
     ensures { λ r. ⌜ r ≡ nonzero c ⌝ }
 {
-    between(c, 49, 57)
+    between(c, b'1', b'9')
 }
 
 // A plus or a minus.
 pub fn is_sign(c: u8) -> bool
     ensures { λ r. ⌜ r ≡ sign c ⌝ }
 {
-    if c == 43 {
+    if c == b'+' {
         return true;
     }
-    c == 45
+    c == b'-'
 }

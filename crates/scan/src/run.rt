@@ -43,7 +43,7 @@ pub fn spaces(s: &[u8], at: usize) -> usize
 {
     let mut i = at;
     while i < s.len() {
-        if s[i] != 32 {
+        if s[i] != b' ' {
             return i;
         }
         i += 1;
@@ -58,7 +58,7 @@ pub fn zeros(s: &[u8], at: usize) -> usize
 {
     let mut i = at;
     while i < s.len() {
-        if s[i] != 48 {
+        if s[i] != b'0' {
             return i;
         }
         i += 1;

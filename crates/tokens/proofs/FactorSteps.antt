@@ -11,7 +11,7 @@ use lib.Seq.{length-take-le}
 use borrow.Author.Tests.{eq-eqb, ne-eqb, not-true, not-false, le-leb, lt-leb}
 use Rattle.label.specs.declared.Rules.{Rules}
 use Rattle.label.specs.declared.WrittenFactor.the-variants.{Absent, TenTo, Zeros}
-use Rattle.label.specs.Bytes.{digit, run-on, run, all}
+use Rattle.label.specs.Bytes.{caret, close-bracket, digit-one, open-bracket, star, digit, run-on, run, all}
 use Rattle.label.specs.Lexical.{Numeral, Factor, ten-to}
 use Rattle.label.specs.Parse.{Found, none, then, mapped, closed, sign, integer, plain-digits, plain-factor, wrapped, starred-factor, ten-factor, ten, factor}
 use Rattle.label.specs.Ranges.{between, numeral-in, Inside}
@@ -63,11 +63,11 @@ module _ (s : List ℕ) (a e : ℕ) where
   unfolding plain-digits
   plain-empty h = rw (between-nothing s a e h)
 
-  pub plain-other : a < e → e ≤ length s → (getD s a 0 ≡ 49 → ⊥) → false ≡ plain-digits (between s a e)
+  pub plain-other : a < e → e ≤ length s → (getD s a 0 ≡ digit-one → ⊥) → false ≡ plain-digits (between s a e)
   unfolding plain-digits
   plain-other h g n = rw (between-cons s a e h g, ne-eqb _ _ n)
 
-  pub plain-run : (z : ℕ) → a < e → e ≤ length s → getD s a 0 ≡ 49 → Run is-zero s (a + 1) z → leb e z ≡ plain-digits (between s a e)
+  pub plain-run : (z : ℕ) → a < e → e ≤ length s → getD s a 0 ≡ digit-one → Run is-zero s (a + 1) z → leb e z ≡ plain-digits (between s a e)
   unfolding plain-digits
   plain-run z h g n w = rw (between-cons s a e h g, n) (sym (all-between is-zero s (a + 1) e z (omega arith) g w))
 
@@ -106,7 +106,7 @@ module _ {s : List ℕ} {i : IntegerAt} where
   unfolding closed then
   closed-tens₁ e j = record { is = rw (not-true (i .ok) e); ahead = omega arith; within = j .within; inside = tt }
 
-  pub closed-tens₂ : {b : Bool} → not (i .ok) ≡ false → Inside s (i .integer .digits) → b ≡ begins 41 (drop (i .integer .digits .end) s) → b ≡ true
+  pub closed-tens₂ : {b : Bool} → not (i .ok) ≡ false → Inside s (i .integer .digits) → b ≡ begins close-bracket (drop (i .integer .digits .end) s) → b ≡ true
       → ClosesTens s i (record { ok = true; next = i .integer .digits .end + 1; factor = TenTo (i .integer) })
   unfolding closed then
   closed-tens₂ e j q t = record {
@@ -116,7 +116,7 @@ module _ {s : List ℕ} {i : IntegerAt} where
     inside = j;
   }
 
-  pub closed-tens₃ : {b : Bool} → not (i .ok) ≡ false → Inside s (i .integer .digits) → b ≡ begins 41 (drop (i .integer .digits .end) s) → b ≡ false
+  pub closed-tens₃ : {b : Bool} → not (i .ok) ≡ false → Inside s (i .integer .digits) → b ≡ begins close-bracket (drop (i .integer .digits .end) s) → b ≡ false
       → ClosesTens s i (no-factor-at (i .integer .digits .end))
   unfolding closed then
   closed-tens₃ e j q t = record { is = rw (not-false (i .ok) e) (byte-no-close _ _ (sym q ∙ t)); ahead = omega arith; within = j .within; inside = tt }
@@ -145,19 +145,19 @@ module _ (r : Rules) (s : List ℕ) (at : ℕ) where
   starred-end h = rw (beyond s at h)
 
   module _ (h : at < length s) where
-    wrapped-open : (eqb (getD s at 0) 40 && r .wrapped) ≡ true → wrapped r (drop at s) ≡ closed ten-to (integer (drop (at + 1) s))
+    wrapped-open : (eqb (getD s at 0) open-bracket && r .wrapped) ≡ true → wrapped r (drop at s) ≡ closed ten-to (integer (drop (at + 1) s))
     unfolding wrapped
     wrapped-open e = rw (here s at h, e)
 
-    wrapped-bare : (eqb (getD s at 0) 40 && r .wrapped) ≡ false → wrapped r (drop at s) ≡ mapped ten-to (integer (drop at s))
+    wrapped-bare : (eqb (getD s at 0) open-bracket && r .wrapped) ≡ false → wrapped r (drop at s) ≡ mapped ten-to (integer (drop at s))
     unfolding wrapped
     wrapped-bare e = rw (here s at h, e)
 
-    starred-star : getD s at 0 ≡ 42 → starred-factor r (drop at s) ≡ wrapped r (drop (at + 1) s)
+    starred-star : getD s at 0 ≡ star → starred-factor r (drop at s) ≡ wrapped r (drop (at + 1) s)
     unfolding starred-factor
     starred-star e = rw (here s at h, e)
 
-    starred-other : (getD s at 0 ≡ 42 → ⊥) → starred-factor r (drop at s) ≡ none
+    starred-other : (getD s at 0 ≡ star → ⊥) → starred-factor r (drop at s) ≡ none
     unfolding starred-factor
     starred-other e = rw (here s at h, ne-eqb _ _ e)
 
@@ -171,16 +171,16 @@ module _ (r : Rules) (s : List ℕ) (at : ℕ) where
     ten-signed e = rw (here s at h, e)
 
     module _ (a : (sign (getD s at 0) && r .signed) ≡ false) where
-      ten-caret : (eqb (getD s at 0) 94 && r .caret) ≡ true → ten-factor r ds (drop at s) ≡ wrapped r (drop (at + 1) s)
+      ten-caret : (eqb (getD s at 0) caret && r .caret) ≡ true → ten-factor r ds (drop at s) ≡ wrapped r (drop (at + 1) s)
       unfolding ten-factor
       ten-caret e = rw (here s at h, a, e)
 
-      module _ (b : (eqb (getD s at 0) 94 && r .caret) ≡ false) where
-        ten-star : getD s at 0 ≡ 42 → ten-factor r ds (drop at s) ≡ starred-factor r (drop (at + 1) s)
+      module _ (b : (eqb (getD s at 0) caret && r .caret) ≡ false) where
+        ten-star : getD s at 0 ≡ star → ten-factor r ds (drop at s) ≡ starred-factor r (drop (at + 1) s)
         unfolding ten-factor
         ten-star e = rw (here s at h, a, b, eq-eqb _ _ e)
 
-        ten-other : (getD s at 0 ≡ 42 → ⊥) → ten-factor r ds (drop at s) ≡ plain-factor r ds (drop at s)
+        ten-other : (getD s at 0 ≡ star → ⊥) → ten-factor r ds (drop at s) ≡ plain-factor r ds (drop at s)
         unfolding ten-factor
         ten-other e = rw (here s at h, a, b, ne-eqb _ _ e)
 
@@ -188,7 +188,7 @@ module _ {r : Rules} {s : List ℕ} {at : ℕ} where
   pub wrapped₁ : at ≤ length s → length s ≤ at → ReadsWrapped r s at (no-factor-at at)
   wrapped₁ h g = record { reads = record { is = wrapped-end r s at g; ahead = omega arith; within = h; inside = tt } }
 
-  pub wrapped₂ : {i : IntegerAt} {o : FactorAt} → at < length s → (eqb (getD s at 0) 40 && r .wrapped) ≡ true → ReadsInteger integer s (at + 1) i → ClosesTens s i o → ReadsWrapped r s at o
+  pub wrapped₂ : {i : IntegerAt} {o : FactorAt} → at < length s → (eqb (getD s at 0) open-bracket && r .wrapped) ≡ true → ReadsInteger integer s (at + 1) i → ClosesTens s i o → ReadsWrapped r s at o
   wrapped₂ h e w v = record {
     reads = record {
       is = wrapped-open r s at h e ∙ ap (λ (x : Found Numeral). closed ten-to x) (w .is) ∙ v .is;
@@ -198,16 +198,16 @@ module _ {r : Rules} {s : List ℕ} {at : ℕ} where
     };
   }
 
-  pub wrapped₃ : {i : IntegerAt} {o : FactorAt} → at < length s → (eqb (getD s at 0) 40 && r .wrapped) ≡ false → ReadsInteger integer s at i → Tens i o → ReadsWrapped r s at o
+  pub wrapped₃ : {i : IntegerAt} {o : FactorAt} → at < length s → (eqb (getD s at 0) open-bracket && r .wrapped) ≡ false → ReadsInteger integer s at i → Tens i o → ReadsWrapped r s at o
   wrapped₃ h e w v = record { reads = integer-factor (wrapped r) (wrapped-bare r s at h e) w v }
 
   pub starred-factor₁ : at ≤ length s → length s ≤ at → ReadsStarred r s at (no-factor-at at)
   starred-factor₁ h g = record { reads = record { is = starred-end r s at g; ahead = omega arith; within = h; inside = tt } }
 
-  pub starred-factor₂ : {o : FactorAt} → at < length s → getD s at 0 ≡ 42 → ReadsWrapped r s (at + 1) o → ReadsStarred r s at o
+  pub starred-factor₂ : {o : FactorAt} → at < length s → getD s at 0 ≡ star → ReadsWrapped r s (at + 1) o → ReadsStarred r s at o
   starred-factor₂ h e v = record { reads = passed (starred-factor r) (wrapped r) (starred-star r s at h e) (omega arith) (v .reads) }
 
-  pub starred-factor₃ : at < length s → (getD s at 0 ≡ 42 → ⊥) → ReadsStarred r s at (no-factor-at at)
+  pub starred-factor₃ : at < length s → (getD s at 0 ≡ star → ⊥) → ReadsStarred r s at (no-factor-at at)
   starred-factor₃ h e = record { reads = record { is = starred-other r s at h e; ahead = omega arith; within = omega arith; inside = tt } }
 
 module _ {r : Rules} {s : List ℕ} {start end : ℕ} where
@@ -218,14 +218,14 @@ module _ {r : Rules} {s : List ℕ} {start end : ℕ} where
   ten₂ h e w v = record { reads = integer-factor (ten-factor r (between s start end)) (ten-signed r s end (between s start end) h e) w v }
 
   module _ (h : end < length s) (a : (sign (getD s end 0) && r .signed) ≡ false) where
-    pub ten₃ : {o : FactorAt} → (eqb (getD s end 0) 94 && r .caret) ≡ true → ReadsWrapped r s (end + 1) o → ReadsTen r s start end o
+    pub ten₃ : {o : FactorAt} → (eqb (getD s end 0) caret && r .caret) ≡ true → ReadsWrapped r s (end + 1) o → ReadsTen r s start end o
     ten₃ e v = record { reads = passed (ten-factor r (between s start end)) (wrapped r) (ten-caret r s end (between s start end) h a e) (omega arith) (v .reads) }
 
-    module _ (b : (eqb (getD s end 0) 94 && r .caret) ≡ false) where
-      pub ten₄ : {o : FactorAt} → getD s end 0 ≡ 42 → ReadsStarred r s (end + 1) o → ReadsTen r s start end o
+    module _ (b : (eqb (getD s end 0) caret && r .caret) ≡ false) where
+      pub ten₄ : {o : FactorAt} → getD s end 0 ≡ star → ReadsStarred r s (end + 1) o → ReadsTen r s start end o
       ten₄ e v = record { reads = passed (ten-factor r (between s start end)) (starred-factor r) (ten-star r s end (between s start end) h a b e) (omega arith) (v .reads) }
 
-      pub ten₅ : {o : FactorAt} → (getD s end 0 ≡ 42 → ⊥) → ReadsPlain r s start end o → ReadsTen r s start end o
+      pub ten₅ : {o : FactorAt} → (getD s end 0 ≡ star → ⊥) → ReadsPlain r s start end o → ReadsTen r s start end o
       ten₅ e v = record { reads = passed (ten-factor r (between s start end)) (plain-factor r (between s start end)) (ten-other r s end (between s start end) h a b e) (omega arith) (v .reads) }
 
 -- THE WHOLE FACTOR
@@ -240,7 +240,7 @@ ten-short (c ∷ d ∷ e ∷ l) h = refl
 pub is-ten₁ : (s : List ℕ) (a e : ℕ) → e ≤ length s → (e - a ≡ 2 → ⊥) → false ≡ ten (between s a e)
 is-ten₁ s a e h n = sym (ten-short (between s a e) (λ q. n (sym (length-between s a e h) ∙ q)))
 
-pub is-ten₂ : (s : List ℕ) (a e : ℕ) → a ≤ e → e ≤ length s → e - a ≡ 2 → (eqb (getD s a 0) 49 && eqb (getD s (a + 1) 0) 48) ≡ ten (between s a e)
+pub is-ten₂ : (s : List ℕ) (a e : ℕ) → a ≤ e → e ≤ length s → e - a ≡ 2 → (eqb (getD s a 0) digit-one && eqb (getD s (a + 1) 0) 48) ≡ ten (between s a e)
 unfolding ten
 is-ten₂ s a e l h q = rw (between-cons s a e (omega arith) h, between-cons s (a + 1) e (omega arith) h, between-nothing s (a + 1 + 1) e (omega arith))
 

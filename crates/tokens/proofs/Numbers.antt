@@ -6,7 +6,7 @@ use mathlib.Core.Bool.{Bool, true, false, not}
 use mathlib.Core.List.{List, [], _∷_}
 use lib.ListN.{length, drop, getD}
 use borrow.Author.Tests.{not-true, not-false, ne-eqb}
-use Rattle.label.specs.Bytes.{digit, nonzero, run, past}
+use Rattle.label.specs.Bytes.{minus, plus, digit, nonzero, run, past}
 use Rattle.label.specs.Choice.{pick}
 use Rattle.label.specs.Parse.{Found, none, found, mapped, unsigned, digits, numeral, integer}
 use Rattle.label.specs.Ranges.{digits-in, numeral-in, Inside}
@@ -98,15 +98,15 @@ signs-start w = rw (w .is)
 
 -- what each first byte leaves
 module _ (s : List ℕ) (at : ℕ) where
-  minus-step : at < length s → getD s at 0 ≡ 45 → integer (drop at s) ≡ mapped (numeral true) (unsigned (drop (at + 1) s))
+  minus-step : at < length s → getD s at 0 ≡ minus → integer (drop at s) ≡ mapped (numeral true) (unsigned (drop (at + 1) s))
   unfolding integer
   minus-step h e = rw (here s at h, e)
 
-  plus-step : at < length s → (getD s at 0 ≡ 45 → ⊥) → getD s at 0 ≡ 43 → integer (drop at s) ≡ mapped (numeral false) (unsigned (drop (at + 1) s))
+  plus-step : at < length s → (getD s at 0 ≡ minus → ⊥) → getD s at 0 ≡ plus → integer (drop at s) ≡ mapped (numeral false) (unsigned (drop (at + 1) s))
   unfolding integer
   plus-step h n e = rw (here s at h, e)
 
-  plain-step : at < length s → (getD s at 0 ≡ 45 → ⊥) → (getD s at 0 ≡ 43 → ⊥) → integer (drop at s) ≡ mapped (numeral false) (unsigned (drop at s))
+  plain-step : at < length s → (getD s at 0 ≡ minus → ⊥) → (getD s at 0 ≡ plus → ⊥) → integer (drop at s) ≡ mapped (numeral false) (unsigned (drop at s))
   unfolding integer
   plain-step h n m = rw (here s at h, ne-eqb _ _ n, ne-eqb _ _ m)
 
@@ -124,11 +124,11 @@ module _ {s : List ℕ} {at : ℕ} where
       inside = signs-inside v (w .inside);
     }
 
-  pub integer₂ : {d : DigitsAt} {o : IntegerAt} → at < length s → getD s at 0 ≡ 45 → ReadsDigits unsigned s (at + 1) d → Signs true d o → ReadsInteger integer s at o
+  pub integer₂ : {d : DigitsAt} {o : IntegerAt} → at < length s → getD s at 0 ≡ minus → ReadsDigits unsigned s (at + 1) d → Signs true d o → ReadsInteger integer s at o
   integer₂ h e w v = from-digits true (at + 1) w v (omega arith) (minus-step s at h e)
 
-  pub integer₃ : {d : DigitsAt} {o : IntegerAt} → at < length s → (getD s at 0 ≡ 45 → ⊥) → getD s at 0 ≡ 43 → ReadsDigits unsigned s (at + 1) d → Signs false d o → ReadsInteger integer s at o
+  pub integer₃ : {d : DigitsAt} {o : IntegerAt} → at < length s → (getD s at 0 ≡ minus → ⊥) → getD s at 0 ≡ plus → ReadsDigits unsigned s (at + 1) d → Signs false d o → ReadsInteger integer s at o
   integer₃ h n e w v = from-digits false (at + 1) w v (omega arith) (plus-step s at h n e)
 
-  pub integer₄ : {d : DigitsAt} {o : IntegerAt} → at < length s → (getD s at 0 ≡ 45 → ⊥) → (getD s at 0 ≡ 43 → ⊥) → ReadsDigits unsigned s at d → Signs false d o → ReadsInteger integer s at o
+  pub integer₄ : {d : DigitsAt} {o : IntegerAt} → at < length s → (getD s at 0 ≡ minus → ⊥) → (getD s at 0 ≡ plus → ⊥) → ReadsDigits unsigned s at d → Signs false d o → ReadsInteger integer s at o
   integer₄ h n m w v = from-digits false at w v (omega arith) (plain-step s at h n m)

@@ -13,7 +13,7 @@ use Rattle.label.specs.declared.Rules.{Rules}
 use Rattle.label.specs.declared.SignedDigits.{SignedDigits}
 use Rattle.label.specs.declared.WrittenPower.{WrittenPower}
 use Rattle.label.specs.declared.WrittenPower.the-variants.{Unwritten, Whole, Decimal, Fraction}
-use Rattle.label.specs.Bytes.{digit}
+use Rattle.label.specs.Bytes.{caret, close-bracket, open-bracket, point, slash, star, digit}
 use Rattle.label.specs.Lexical.{Numeral, Written, unwritten, whole, decimal, fraction}
 use Rattle.label.specs.Parse.{Found, none, found, then, mapped, byte, closed, unsigned, digits, sign, integer, bracketed-on, bracketed, power, starred, exponent}
 use Rattle.label.specs.Ranges.{digits-in, numeral-in, Inside, PowerInside}
@@ -45,34 +45,34 @@ module _ (s : List ℕ) (at : ℕ) where
   begins-byte c h = rw (here s at h)
 
 -- a closing bracket is passed
-byte-closes : {A : Type 0} (a : A) (u : List ℕ) → begins 41 u ≡ true → byte 41 a u ≡ found a (drop 1 u)
+byte-closes : {A : Type 0} (a : A) (u : List ℕ) → begins close-bracket u ≡ true → byte close-bracket a u ≡ found a (drop 1 u)
 unfolding byte begins
 byte-closes a [] e = absurd (let z : _≡_ {A = ℕ} 0 1 = cc in omega arith)
 byte-closes a (c ∷ u) e = rw e
 
-pub byte-no-close : {A : Type 0} (a : A) (u : List ℕ) → begins 41 u ≡ false → byte 41 a u ≡ none
+pub byte-no-close : {A : Type 0} (a : A) (u : List ℕ) → begins close-bracket u ≡ false → byte close-bracket a u ≡ none
 unfolding byte begins
 byte-no-close a [] e = refl
 byte-no-close a (c ∷ u) e = rw e
 
-pub begins-room : (s : List ℕ) (at : ℕ) → begins 41 (drop at s) ≡ true → at < length s
+pub begins-room : (s : List ℕ) (at : ℕ) → begins close-bracket (drop at s) ≡ true → at < length s
 begins-room s at e = go (decLt at (length s))
   where
     go : Dec (at < length s) → at < length s
     go (yes h) = h
-    go (no h) = absurd (let z : _≡_ {A = ℕ} 0 1 = cc (begins-end s at 41 (omega arith)) in omega arith)
+    go (no h) = absurd (let z : _≡_ {A = ℕ} 0 1 = cc (begins-end s at close-bracket (omega arith)) in omega arith)
 
-pub close-found : {A : Type 0} (s : List ℕ) (at : ℕ) (a : A) → begins 41 (drop at s) ≡ true → byte 41 a (drop at s) ≡ found a (drop (at + 1) s)
+pub close-found : {A : Type 0} (s : List ℕ) (at : ℕ) (a : A) → begins close-bracket (drop at s) ≡ true → byte close-bracket a (drop at s) ≡ found a (drop (at + 1) s)
 close-found s at a e = byte-closes a (drop at s) e ∙ ap (λ (u : List ℕ). found a u) (drop-drop 1 at s)
 
-not-closed : (s : List ℕ) (ds : List ℕ) (end : ℕ) (f : List ℕ → Written) (ok : Bool) {r : Bool} → r ≡ begins 41 (drop end s) → (ok && r) ≡ false
+not-closed : (s : List ℕ) (ds : List ℕ) (end : ℕ) (f : List ℕ → Written) (ok : Bool) {r : Bool} → r ≡ begins close-bracket (drop end s) → (ok && r) ≡ false
     → closed f (found-by ok ds (drop end s)) ≡ none
 unfolding closed then
 not-closed s ds end f true b e = byte-no-close _ _ (sym b ∙ e)
 not-closed s ds end f false b e = refl
 
 -- digits and the closing bracket
-module _ {s : List ℕ} {d : DigitsAt} {r t : Bool} (b : r ≡ begins 41 (drop (d .digits .end) s)) (q : t ≡ (d .ok && r)) where
+module _ {s : List ℕ} {d : DigitsAt} {r t : Bool} (b : r ≡ begins close-bracket (drop (d .digits .end) s)) (q : t ≡ (d .ok && r)) where
   pub closed₁ : {p : WrittenPower} → t ≡ true → PowerInside s p → Closes s d p (record { ok = true; next = d .digits .end + 1; power = p })
   unfolding closed then
   closed₁ e j =
@@ -96,19 +96,19 @@ module _ (s : List ℕ) (at : ℕ) (n : Numeral) where
   on-end h = rw (beyond s at h)
 
   module _ (h : at < length s) where
-    on-close : getD s at 0 ≡ 41 → bracketed-on n (drop at s) ≡ found (whole n) (drop (at + 1) s)
+    on-close : getD s at 0 ≡ close-bracket → bracketed-on n (drop at s) ≡ found (whole n) (drop (at + 1) s)
     unfolding bracketed-on
     on-close e = rw (here s at h, e)
 
-    on-point : getD s at 0 ≡ 46 → bracketed-on n (drop at s) ≡ closed (decimal n) (digits (drop (at + 1) s))
+    on-point : getD s at 0 ≡ point → bracketed-on n (drop at s) ≡ closed (decimal n) (digits (drop (at + 1) s))
     unfolding bracketed-on
     on-point e = rw (here s at h, e)
 
-    on-slash : getD s at 0 ≡ 47 → bracketed-on n (drop at s) ≡ closed (fraction n) (unsigned (drop (at + 1) s))
+    on-slash : getD s at 0 ≡ slash → bracketed-on n (drop at s) ≡ closed (fraction n) (unsigned (drop (at + 1) s))
     unfolding bracketed-on
     on-slash e = rw (here s at h, e)
 
-    on-other : (getD s at 0 ≡ 41 → ⊥) → (getD s at 0 ≡ 46 → ⊥) → (getD s at 0 ≡ 47 → ⊥) → bracketed-on n (drop at s) ≡ none
+    on-other : (getD s at 0 ≡ close-bracket → ⊥) → (getD s at 0 ≡ point → ⊥) → (getD s at 0 ≡ slash → ⊥) → bracketed-on n (drop at s) ≡ none
     unfolding bracketed-on
     on-other a b c = rw (here s at h, ne-eqb _ _ a, ne-eqb _ _ b, ne-eqb _ _ c)
 
@@ -116,10 +116,10 @@ module _ {s : List ℕ} {n : SignedDigits} {at : ℕ} where
   pub bracketed-on₁ : at ≤ length s → length s ≤ at → ReadsOn s n at (no-power at)
   bracketed-on₁ h g = record { reads = record { is = on-end s at (numeral-in s n) g; ahead = omega arith; within = h; inside = tt } }
 
-  pub bracketed-on₂ : at < length s → getD s at 0 ≡ 41 → Inside s (n .digits) → ReadsOn s n at (record { ok = true; next = at + 1; power = Whole n })
+  pub bracketed-on₂ : at < length s → getD s at 0 ≡ close-bracket → Inside s (n .digits) → ReadsOn s n at (record { ok = true; next = at + 1; power = Whole n })
   bracketed-on₂ h e i = record { reads = record { is = on-close s at (numeral-in s n) h e; ahead = omega arith; within = omega arith; inside = i } }
 
-  pub bracketed-on₃ : {d : DigitsAt} {o : PowerAt} → at < length s → getD s at 0 ≡ 46 → ReadsDigits digits s (at + 1) d → Closes s d (Decimal n (d .digits)) o
+  pub bracketed-on₃ : {d : DigitsAt} {o : PowerAt} → at < length s → getD s at 0 ≡ point → ReadsDigits digits s (at + 1) d → Closes s d (Decimal n (d .digits)) o
       → ReadsOn s n at o
   bracketed-on₃ h e w v = record {
     reads = record {
@@ -130,7 +130,7 @@ module _ {s : List ℕ} {n : SignedDigits} {at : ℕ} where
     };
   }
 
-  pub bracketed-on₄ : {d : DigitsAt} {o : PowerAt} → at < length s → getD s at 0 ≡ 47 → ReadsDigits unsigned s (at + 1) d → Closes s d (Fraction n (d .digits)) o
+  pub bracketed-on₄ : {d : DigitsAt} {o : PowerAt} → at < length s → getD s at 0 ≡ slash → ReadsDigits unsigned s (at + 1) d → Closes s d (Fraction n (d .digits)) o
       → ReadsOn s n at o
   bracketed-on₄ h e w v = record {
     reads = record {
@@ -141,7 +141,7 @@ module _ {s : List ℕ} {n : SignedDigits} {at : ℕ} where
     };
   }
 
-  pub bracketed-on₅ : at < length s → (getD s at 0 ≡ 41 → ⊥) → (getD s at 0 ≡ 46 → ⊥) → (getD s at 0 ≡ 47 → ⊥) → ReadsOn s n at (no-power at)
+  pub bracketed-on₅ : at < length s → (getD s at 0 ≡ close-bracket → ⊥) → (getD s at 0 ≡ point → ⊥) → (getD s at 0 ≡ slash → ⊥) → ReadsOn s n at (no-power at)
   bracketed-on₅ h a b c = record { reads = record { is = on-other s at (numeral-in s n) h a b c; ahead = omega arith; within = omega arith; inside = tt } }
 
 module _ {s : List ℕ} {at : ℕ} {i : IntegerAt} where
@@ -171,11 +171,11 @@ module _ (s : List ℕ) (at : ℕ) where
   unfolding power
   power-end h = rw (beyond s at h)
 
-  power-open : at < length s → getD s at 0 ≡ 40 → power (drop at s) ≡ bracketed (drop (at + 1) s)
+  power-open : at < length s → getD s at 0 ≡ open-bracket → power (drop at s) ≡ bracketed (drop (at + 1) s)
   unfolding power
   power-open h e = rw (here s at h, e)
 
-  power-bare : at < length s → (getD s at 0 ≡ 40 → ⊥) → power (drop at s) ≡ mapped whole (integer (drop at s))
+  power-bare : at < length s → (getD s at 0 ≡ open-bracket → ⊥) → power (drop at s) ≡ mapped whole (integer (drop at s))
   unfolding power
   power-bare h e = rw (here s at h, ne-eqb _ _ e)
 
@@ -183,10 +183,10 @@ module _ {s : List ℕ} {at : ℕ} where
   pub power₁ : at ≤ length s → length s ≤ at → ReadsPower power s at (no-power at)
   power₁ h g = record { is = power-end s at g; ahead = omega arith; within = h; inside = tt }
 
-  pub power₂ : {o : PowerAt} → at < length s → getD s at 0 ≡ 40 → ReadsPower bracketed s (at + 1) o → ReadsPower power s at o
+  pub power₂ : {o : PowerAt} → at < length s → getD s at 0 ≡ open-bracket → ReadsPower bracketed s (at + 1) o → ReadsPower power s at o
   power₂ h e v = record { is = power-open s at h e ∙ v .is; ahead = omega (arith, v .ahead); within = v .within; inside = v .inside }
 
-  pub power₃ : {i : IntegerAt} {o : PowerAt} → at < length s → (getD s at 0 ≡ 40 → ⊥) → ReadsInteger integer s at i → Powers i o → ReadsPower power s at o
+  pub power₃ : {i : IntegerAt} {o : PowerAt} → at < length s → (getD s at 0 ≡ open-bracket → ⊥) → ReadsInteger integer s at i → Powers i o → ReadsPower power s at o
   power₃ h e w v = integer-power power (power-bare s at h e) w v
 
   -- BEHIND A STAR
@@ -195,11 +195,11 @@ module _ {s : List ℕ} {at : ℕ} where
   unfolding starred
   starred₁ h g = record { is = rw (beyond s (at + 1) g); ahead = omega arith; within = omega arith; inside = tt }
 
-  pub starred₂ : {o : PowerAt} → at + 1 < length s → getD s (at + 1) 0 ≡ 42 → ReadsPower power s (at + 1 + 1) o → StarredFrom s at o
+  pub starred₂ : {o : PowerAt} → at + 1 < length s → getD s (at + 1) 0 ≡ star → ReadsPower power s (at + 1 + 1) o → StarredFrom s at o
   unfolding starred
   starred₂ h e v = record { is = rw (here s (at + 1) h, e) (v .is); ahead = omega (arith, v .ahead); within = v .within; inside = v .inside }
 
-  pub starred₃ : at + 1 < length s → (getD s (at + 1) 0 ≡ 42 → ⊥) → StarredFrom s at (unwritten-at at)
+  pub starred₃ : at + 1 < length s → (getD s (at + 1) 0 ≡ star → ⊥) → StarredFrom s at (unwritten-at at)
   unfolding starred
   starred₃ h e = record { is = rw (here s (at + 1) h, ne-eqb _ _ e); ahead = omega arith; within = omega arith; inside = tt }
 
@@ -223,21 +223,21 @@ module _ (r : Rules) (s : List ℕ) (at : ℕ) where
     exponent-direct e = rw (here s at h, e)
 
     module _ (a : ((sign (getD s at 0) || digit (getD s at 0)) && r .direct) ≡ false) where
-      exponent-bracket : (eqb (getD s at 0) 40 && r .brackets) ≡ true → exponent r (drop at s) ≡ bracketed (drop (at + 1) s)
+      exponent-bracket : (eqb (getD s at 0) open-bracket && r .brackets) ≡ true → exponent r (drop at s) ≡ bracketed (drop (at + 1) s)
       unfolding exponent
       exponent-bracket e = rw (here s at h, a, e)
 
-      module _ (b : (eqb (getD s at 0) 40 && r .brackets) ≡ false) where
-        exponent-caret : (eqb (getD s at 0) 94 && r .caret) ≡ true → exponent r (drop at s) ≡ power (drop (at + 1) s)
+      module _ (b : (eqb (getD s at 0) open-bracket && r .brackets) ≡ false) where
+        exponent-caret : (eqb (getD s at 0) caret && r .caret) ≡ true → exponent r (drop at s) ≡ power (drop (at + 1) s)
         unfolding exponent
         exponent-caret e = rw (here s at h, a, b, e)
 
-        module _ (c : (eqb (getD s at 0) 94 && r .caret) ≡ false) where
-          exponent-star : (eqb (getD s at 0) 42 && r .stars) ≡ true → exponent r (drop at s) ≡ starred (drop at s) (drop (at + 1) s)
+        module _ (c : (eqb (getD s at 0) caret && r .caret) ≡ false) where
+          exponent-star : (eqb (getD s at 0) star && r .stars) ≡ true → exponent r (drop at s) ≡ starred (drop at s) (drop (at + 1) s)
           unfolding exponent
           exponent-star e = rw (here s at h, a, b, c, e)
 
-          exponent-none : (eqb (getD s at 0) 42 && r .stars) ≡ false → exponent r (drop at s) ≡ found unwritten (drop at s)
+          exponent-none : (eqb (getD s at 0) star && r .stars) ≡ false → exponent r (drop at s) ≡ found unwritten (drop at s)
           unfolding exponent
           exponent-none e = rw (here s at h, a, b, c, e)
 
@@ -250,16 +250,16 @@ module _ {r : Rules} {s : List ℕ} {at : ℕ} where
   exponent₂ h e w v = record { reads = integer-power (exponent r) (exponent-direct r s at h e) w v }
 
   module _ (h : at < length s) (a : ((sign (getD s at 0) || digit (getD s at 0)) && r .direct) ≡ false) where
-    pub exponent₃ : {o : PowerAt} → (eqb (getD s at 0) 40 && r .brackets) ≡ true → ReadsPower bracketed s (at + 1) o → ReadsExponent r s at o
+    pub exponent₃ : {o : PowerAt} → (eqb (getD s at 0) open-bracket && r .brackets) ≡ true → ReadsPower bracketed s (at + 1) o → ReadsExponent r s at o
     exponent₃ e v = record { reads = record { is = exponent-bracket r s at h a e ∙ v .is; ahead = omega (arith, v .ahead); within = v .within; inside = v .inside } }
 
-    module _ (b : (eqb (getD s at 0) 40 && r .brackets) ≡ false) where
-      pub exponent₄ : {o : PowerAt} → (eqb (getD s at 0) 94 && r .caret) ≡ true → ReadsPower power s (at + 1) o → ReadsExponent r s at o
+    module _ (b : (eqb (getD s at 0) open-bracket && r .brackets) ≡ false) where
+      pub exponent₄ : {o : PowerAt} → (eqb (getD s at 0) caret && r .caret) ≡ true → ReadsPower power s (at + 1) o → ReadsExponent r s at o
       exponent₄ e v = record { reads = record { is = exponent-caret r s at h a b e ∙ v .is; ahead = omega (arith, v .ahead); within = v .within; inside = v .inside } }
 
-      module _ (c : (eqb (getD s at 0) 94 && r .caret) ≡ false) where
-        pub exponent₅ : {o : PowerAt} → (eqb (getD s at 0) 42 && r .stars) ≡ true → StarredFrom s at o → ReadsExponent r s at o
+      module _ (c : (eqb (getD s at 0) caret && r .caret) ≡ false) where
+        pub exponent₅ : {o : PowerAt} → (eqb (getD s at 0) star && r .stars) ≡ true → StarredFrom s at o → ReadsExponent r s at o
         exponent₅ e v = record { reads = record { is = exponent-star r s at h a b c e ∙ v .is; ahead = v .ahead; within = v .within; inside = v .inside } }
 
-        pub exponent₆ : (eqb (getD s at 0) 42 && r .stars) ≡ false → ReadsExponent r s at (unwritten-at at)
+        pub exponent₆ : (eqb (getD s at 0) star && r .stars) ≡ false → ReadsExponent r s at (unwritten-at at)
         exponent₆ e = record { reads = record { is = exponent-none r s at h a b c e; ahead = omega arith; within = omega arith; inside = tt } }

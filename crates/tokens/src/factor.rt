@@ -32,7 +32,7 @@ pub fn is_plain(s: &[u8], start: usize, end: usize) -> bool
     if end <= start {
         return false;
     }
-    if s[start] != 49 {
+    if s[start] != b'1' {
         return false;
     }
     end <= zeros(s, start + 1)
@@ -112,7 +112,7 @@ pub fn wrapped(r: Rules, s: &[u8], at: usize) -> FactorAt
             factor: WrittenFactor::Absent,
         };
     }
-    if both(s[at] == 40, r.wrapped) {
+    if both(s[at] == b'(', r.wrapped) {
         return closed_tens(s, integer(s, at + 1));
     }
     tens(integer(s, at))
@@ -130,7 +130,7 @@ pub fn starred_factor(r: Rules, s: &[u8], at: usize) -> FactorAt
             factor: WrittenFactor::Absent,
         };
     }
-    if s[at] == 42 {
+    if s[at] == b'*' {
         return wrapped(r, s, at + 1);
     }
     FactorAt {
@@ -153,10 +153,10 @@ pub fn ten_factor(r: Rules, s: &[u8], start: usize, end: usize) -> FactorAt
     if both(is_sign(c), r.signed) {
         return tens(integer(s, end));
     }
-    if both(c == 94, r.caret) {
+    if both(c == b'^', r.caret) {
         return wrapped(r, s, end + 1);
     }
-    if c == 42 {
+    if c == b'*' {
         return starred_factor(r, s, end + 1);
     }
     plain_factor(r, s, start, end)
@@ -171,7 +171,7 @@ pub fn is_ten(s: &[u8], start: usize, end: usize) -> bool
     if end - start != 2 {
         return false;
     }
-    both(s[start] == 49, s[start + 1] == 48)
+    both(s[start] == b'1', s[start + 1] == b'0')
 }
 
 // The factor that a digit at `at` begins.

@@ -93,10 +93,10 @@ pub fn integer(s: &[u8], at: usize) -> IntegerAt
         };
     }
     let c = s[at];
-    if c == 45 {
+    if c == b'-' {
         return under_sign(true, unsigned(s, at + 1));
     }
-    if c == 43 {
+    if c == b'+' {
         return under_sign(false, unsigned(s, at + 1));
     }
     under_sign(false, unsigned(s, at))

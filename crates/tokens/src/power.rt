@@ -15,7 +15,7 @@ ghost use Prim.Native.Nat.{_≤_, _<_};
 ghost use mathlib.Core.Path.{_≡_};
 ghost use mathlib.Core.Bool.{_||_};
 ghost use lib.ListN.{length, drop};
-ghost use Rattle.label.specs.Bytes.{digit};
+ghost use Rattle.label.specs.Bytes.{digit, close-bracket};
 ghost use Rattle.label.specs.Parse.{sign, bracketed, power};
 ghost use Rattle.label.specs.Ranges.{Inside, PowerInside};
 ghost use Rattle.tokens.specs.Answers.{begins, ReadsPower, Closes, ReadsOn, Powers, StarredFrom, ReadsExponent};
@@ -30,12 +30,12 @@ pub struct PowerAt {
 // Whether a closing bracket stands at `at`.
 pub fn closes(s: &[u8], at: usize) -> bool
     requires { ⌜ at ≤ length (now s) ⌝ }
-    ensures { λ r. ⌜ r ≡ begins 41 (drop at (now (s .entry))) ⌝ }
+    ensures { λ r. ⌜ r ≡ begins close-bracket (drop at (now (s .entry))) ⌝ }
 {
     if s.len() <= at {
         return false;
     }
-    s[at] == 41
+    s[at] == b')'
 }
 
 // The power that digits end, where the closing bracket stands behind them.
@@ -74,19 +74,19 @@ pub fn bracketed_on(s: &[u8], n: SignedDigits, at: usize) -> PowerAt
         };
     }
     let c = s[at];
-    if c == 41 {
+    if c == b')' {
         return PowerAt {
             ok: true,
             next: at + 1,
             power: WrittenPower::Whole(n),
         };
     }
-    if c == 46 {
+    if c == b'.' {
         let d = some_digits(s, at + 1);
         let digits = d.digits;
         return closed(s, d, WrittenPower::Decimal(n, digits));
     }
-    if c == 47 {
+    if c == b'/' {
         let d = unsigned(s, at + 1);
         let digits = d.digits;
         return closed(s, d, WrittenPower::Fraction(n, digits));
@@ -141,7 +141,7 @@ pub fn power(s: &[u8], at: usize) -> PowerAt
             power: WrittenPower::Unwritten,
         };
     }
-    if s[at] == 40 {
+    if s[at] == b'(' {
         return bracketed(s, at + 1);
     }
     whole(integer(s, at))
@@ -160,7 +160,7 @@ pub fn starred(s: &[u8], at: usize) -> PowerAt
             power: WrittenPower::Unwritten,
         };
     }
-    if s[second] == 42 {
+    if s[second] == b'*' {
         return power(s, second + 1);
     }
     PowerAt {
@@ -196,13 +196,13 @@ pub fn exponent(r: Rules, s: &[u8], at: usize) -> PowerAt
     if both(starts_integer(c), r.direct) {
         return whole(integer(s, at));
     }
-    if both(c == 40, r.brackets) {
+    if both(c == b'(', r.brackets) {
         return bracketed(s, at + 1);
     }
-    if both(c == 94, r.caret) {
+    if both(c == b'^', r.caret) {
         return power(s, at + 1);
     }
-    if both(c == 42, r.stars) {
+    if both(c == b'*', r.stars) {
         return starred(s, at);
     }
     PowerAt {

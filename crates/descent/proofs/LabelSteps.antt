@@ -18,7 +18,7 @@ use Rattle.label.proofs.Basics.{false-true}
 use Rattle.scan.specs.Runs.{Run, is-space}
 use Rattle.scan.proofs.Slices.{here, beyond}
 use Rattle.tokens.specs.declared.factor.FactorAt.{FactorAt}
-use Rattle.tokens.specs.Answers.{ReadsFactorBy}
+use Rattle.tokens.specs.Answers.{ReadsFactor}
 use Rattle.descent.specs.declared.whole.LabelRead.{LabelRead}
 use Rattle.descent.specs.Terms.{Lent, Empty}
 use Rattle.descent.specs.Steps.{Ready, Stepped}
@@ -86,17 +86,17 @@ tells-ended x r b s at t u f p o y w i a v e = record {
 
 -- LABELS WITH A FACTOR
 
-module _ {r : Rules} {s : List ℕ} {f : FactorAt} (w : ReadsFactorBy r s 0 f) where
+module _ {r : Rules} {s : List ℕ} {f : FactorAt} (w : ReadsFactor (factor r (drop 0 s)) s 0 f) where
   pub factored₁ : {t : Lent} {o : LabelRead} → o ≡ no-label → not (f .ok) ≡ true → ReadsFactored r s t o
   unfolding factored
-  factored₁ q e = rw q (record { tells = record { parts = []; is = rw (w .reads .is, not-true (f .ok) e); holds = λ x. absurd (false-true x); inside = tt } })
+  factored₁ q e = rw q (record { tells = record { parts = []; is = rw (w .is, not-true (f .ok) e); holds = λ x. absurd (false-true x); inside = tt } })
 
   pub factored₂ : {n p : ℕ} {t u : Lent} {o : LabelRead} → not (f .ok) ≡ false → Gaps r s (f .next) n → Empty t → Stepped quotient r false s n t u p
       → Ended s (f .factor) p o → ReadsFactored r s u o
   unfolding factored
   factored₂ {n} {p} {t} {u} {o} e g y a v = record {
-    tells = tells-ended quotient r false s n t u (f .factor) p o _ y (w .reads .inside) a v
-        (ap (factored (λ u. read r (fuel s) quotient false u) r) (w .reads .is) ∙ (rw (not-false (f .ok) e, g .rest)));
+    tells = tells-ended quotient r false s n t u (f .factor) p o _ y (w .inside) a v
+        (ap (factored (λ u. read r (fuel s) quotient false u) r) (w .is) ∙ (rw (not-false (f .ok) e, g .rest)));
   }
 
 -- ALL LABELS

@@ -10,15 +10,16 @@ use Rattle.label.specs.declared.Rules.{Rules}
 use Rattle.label.specs.Choice.{pick}
 use Rattle.label.specs.Lexical.{Part, Kind, item, more, product, quotient}
 use Rattle.label.specs.Limits.{exponent-of}
-use Rattle.label.specs.Parse.{Found, none, found, then, mapped, closed, unit, appended, chained, item-at, item-by, more-at, product-at, quotient-on, inside, read}
+use Rattle.label.specs.Bytes.{close-bracket}
+use Rattle.label.specs.Parse.{Found, none, found, then, mapped, closed, exponent, unit, appended, chained, item-at, item-by, more-at, product-at, quotient-on, inside, read}
 use Rattle.label.specs.Ranges.{between, written-in}
 use Rattle.label.proofs.Basics.{false-true}
 use Rattle.scan.specs.Spellings.{Spelled}
 use Rattle.scan.specs.declared.spelling.Spelling.{Spelling}
 use Rattle.scan.proofs.Slices.{here, beyond}
 use Rattle.tokens.specs.declared.power.PowerAt.{PowerAt}
-use Rattle.tokens.specs.Answers.{begins, ReadsExponent}
-use Rattle.tokens.proofs.PowerSteps.{byte-no-close, begins-room, close-found}
+use Rattle.tokens.specs.Answers.{begins, ReadsPower}
+use Rattle.tokens.proofs.Readers.{byte-no-close, begins-room, close-found}
 use Rattle.values.specs.declared.powers.MaybeExponent.{MaybeExponent}
 use Rattle.values.specs.Given.{given}
 use Rattle.descent.specs.declared.joint.Joint.{Joint as Joined}
@@ -92,10 +93,10 @@ module _ {r : Rules} {b : Bool} {s : List ℕ} {at : ℕ} {t : Lent} {w : Spelli
   unfolding unit then
   unit₁ v e = record { reads = nothing-read (λ k h. rw (v .is, not-true (w .ok) e)) }
 
-  module _ {p : PowerAt} (v : Spelled r s at w) (e : not (w .ok) ≡ false) (q : ReadsExponent r s (w .end) p) where
+  module _ {p : PowerAt} (v : Spelled r s at w) (e : not (w .ok) ≡ false) (q : ReadsPower (exponent r (drop (w .end) s)) s (w .end) p) where
     pub unit₂ : not (p .ok) ≡ true → ReadsUnit r b s at t t 0
     unfolding unit then mapped
-    unit₂ f = record { reads = nothing-read (λ k h. rw (v .is, not-false (w .ok) e, q .reads .is, not-true (p .ok) f)) }
+    unit₂ f = record { reads = nothing-read (λ k h. rw (v .is, not-false (w .ok) e, q .is, not-true (p .ok) f)) }
 
     pub unit₃ : {m : MaybeExponent} {u : Lent} → Ready s at t → not (p .ok) ≡ false
         → given (m .ok) (m .exponent) ≡ exponent-of b (written-in s (p .power))
@@ -108,9 +109,9 @@ module _ {r : Rules} {b : Bool} {s : List ℕ} {at : ℕ} {t : Lent} {w : Spelli
           reads = record {
             parts = part ∷ [];
             misses = λ z. absurd (omega arith);
-            is = λ z k h. rw (v .is, not-false (w .ok) e, q .reads .is, not-false (p .ok) f, back);
-            ahead = λ _. omega (arith, q .reads .ahead);
-            ready = λ _. record { within = omega (arith, q .reads .within); few = omega (arith, y .counted, g .few, q .reads .ahead); room = y .room };
+            is = λ z k h. rw (v .is, not-false (w .ok) e, q .is, not-false (p .ok) f, back);
+            ahead = λ _. omega (arith, q .ahead);
+            ready = λ _. record { within = omega (arith, q .within); few = omega (arith, y .counted, g .few, q .ahead); room = y .room };
             keeps = λ _ ps h. holds-more s part x (rw (← length-drop at s)) y (record { forward = omega arith; within = v .within }) ps h;
           };
         }
@@ -146,7 +147,7 @@ module _ {r : Rules} {b : Bool} {s : List ℕ} {at : ℕ} {t u : Lent} {p : ℕ}
   unfolding closed then
   group₁ e = record { reads = nothing-read (λ k h. inside-read k (a .reads .misses e k (omega (arith, rank-most (kind (r .within)))))) }
 
-  module _ {x : Bool} (e : p ≡ 0 → ⊥) (q : x ≡ begins 41 (drop (p - 1) s)) where
+  module _ {x : Bool} (e : p ≡ 0 → ⊥) (q : x ≡ begins close-bracket (drop (p - 1) s)) where
     inside-found : (k : ℕ) → fuel-at s at + 2 < k → closed (λ ps. ps) (read r k (inside r) b (drop at s)) ≡ closed (λ (ps : List Part). ps) (found (a .reads .parts) (drop (p - 1) s))
     inside-found k h = inside-read k (a .reads .is (omega arith) k (omega (arith, rank-most (kind (r .within)))))
 
@@ -168,7 +169,7 @@ module _ {r : Rules} {b : Bool} {s : List ℕ} {at : ℕ} {t u : Lent} {p : ℕ}
 
     pub group₃ : x ≡ false → Grouped r b s at t u 0
     unfolding closed then
-    group₃ y = record { reads = nothing-read (λ k h. inside-found k h ∙ byte-no-close (a .reads .parts) (drop (p - 1) s) (sym q ∙ y)) }
+    group₃ y = record { reads = nothing-read (λ k h. inside-found k h ∙ byte-no-close s (p - 1) (a .reads .parts) (sym q ∙ y)) }
 
 -- ITEMS
 

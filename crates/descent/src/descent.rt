@@ -8,7 +8,8 @@ use crate::terms::keep;
 use label::Rules;
 use scan::spelling::spelling_at;
 use tokens::power::closes;
-use tokens::power::exponent;
+use tokens::power::power_after;
+use values::powers::exponent;
 ghost use Rattle.label.specs.Lexical.{item};
 ghost use Rattle.descent.specs.Terms.{lent};
 ghost use Rattle.descent.specs.Steps.{Ready, kind, Stepped, Grouped, ReadsUnit};
@@ -31,13 +32,13 @@ pub fn unit(
     if !w.ok {
         return 0;
     }
-    let p = tokens::power::exponent(r, s, end);
+    let p = power_after(r, s, end);
     let next = p.next;
     if !p.ok {
         return 0;
     }
     let power = p.power;
-    let e = values::powers::exponent(s, turned, power);
+    let e = exponent(s, turned, power);
     let x = e.exponent;
     keep(places, exponents, at, end, x, e.ok);
     next + 1

@@ -6,7 +6,7 @@ use label::WrittenFactor;
 use scan::class::both;
 use scan::class::is_digit;
 use scan::run::spaces;
-use tokens::factor::factor;
+use tokens::factor::factor_at;
 ghost use mathlib.Core.Path.{_≡_};
 ghost use Prim.Native.Nat.{_≤_};
 ghost use lib.ListN.{length};
@@ -80,7 +80,7 @@ pub fn factored(
     requires { ⌜ Empty (lent (now places) (now exponents)) ⌝ }
     ensures { λ o. ⌜ ReadsFactored r (now (s .entry)) (lent (now (places .exit)) (now (exponents .exit))) o ⌝ }
 {
-    let f = factor(r, s, 0);
+    let f = factor_at(r, s, 0);
     if !f.ok {
         return no_label();
     }

@@ -3,9 +3,10 @@ use Prim.Native.Nat.{ℕ, suc, _≤_, _<_, _-_, _+_}
 use native.Mathlib.Omega.{arith}
 use native.Mathlib.Nat.{sub-self}
 use native.Mathlib.Numerals.{add-one}
+use native.Mathlib.Decide.{decLt}
 use mathlib.Core.Path.{_≡_}
 use mathlib.Core.List.{List, [], _∷_, _++_}
-use lib.ListN.{length, drop, getD, drop-of-length-le, length-drop}
+use lib.ListN.{length, drop, getD, drop-of-length-le, length-drop, List·getD-eq-default}
 use lib.Seq.{drop-cons, take-add, drop-drop, length-take-le}
 use Rattle.label.specs.Ranges.{between}
 
@@ -18,6 +19,18 @@ here s i h = rw (add-one i) (drop-cons s i 0 h)
 -- at the end of the text or behind it, nothing
 pub beyond : (s : List ℕ) (i : ℕ) → length s ≤ i → drop i s ≡ []
 beyond s i h = drop-of-length-le s h
+
+-- from the end on the byte is 0
+pub byte-outside : (s : List ℕ) (i : ℕ) → length s ≤ i → getD s i 0 ≡ 0
+byte-outside s i h = List·getD-eq-default s 0 h
+
+-- a byte that is not 0 is inside
+pub byte-inside : (s : List ℕ) (i : ℕ) → (getD s i 0 ≡ 0 → ⊥) → i < length s
+byte-inside s i n = go (decLt i (length s))
+  where
+    go : Dec (i < length s) → i < length s
+    go (yes h) = h
+    go (no h) = absurd (n (byte-outside s i (omega arith)))
 
 -- k bytes on
 pub further : (s : List ℕ) (i k : ℕ) → drop k (drop i s) ≡ drop (i + k) s

@@ -1,6 +1,7 @@
 // Classes of bytes.
 ghost use mathlib.Core.Path.{_≡_};
 ghost use mathlib.Core.Bool.{_&&_};
+ghost use lib.ListN.{getD};
 ghost use Rattle.label.specs.Parse.{sign};
 ghost use Rattle.label.specs.Bytes.{within, letter, digit, nonzero};
 
@@ -12,6 +13,16 @@ pub fn both(a: bool, b: bool) -> bool
         return b;
     }
     false
+}
+
+// The byte at `at`, or 0 from the end of the label on. No byte that is tested for is 0.
+pub fn byte_at(s: &[u8], at: usize) -> u8
+    ensures { λ r. ⌜ r ≡ getD (now (s .entry)) at 0 ⌝ }
+{
+    if at < s.len() {
+        return s[at];
+    }
+    0
 }
 
 pub fn between(c: u8, low: u8, high: u8) -> bool

@@ -1,3 +1,4 @@
+pub mod Readers
 pub mod Numbers
 pub mod PowerSteps
 pub mod FactorSteps

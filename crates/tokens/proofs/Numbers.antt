@@ -4,18 +4,19 @@ use native.Mathlib.Omega.{arith}
 use mathlib.Core.Path.{_≡_, refl, ap, _∙_}
 use mathlib.Core.Bool.{Bool, true, false, not}
 use mathlib.Core.List.{List, [], _∷_}
+use lib.Dec.{eqb}
 use lib.ListN.{length, drop, getD}
-use borrow.Author.Tests.{not-true, not-false, ne-eqb}
-use Rattle.label.specs.Bytes.{minus, plus, digit, nonzero, run, past}
+use borrow.Author.Tests.{not-true, not-false, eq-eqb, ne-eqb}
+use Rattle.label.specs.Bytes.{plus, minus, digit, nonzero, run, past}
 use Rattle.label.specs.Choice.{pick}
 use Rattle.label.specs.Parse.{Found, none, found, mapped, unsigned, digits, numeral, integer}
-use Rattle.label.specs.Ranges.{digits-in, numeral-in, Inside}
+use Rattle.label.specs.Ranges.{digits-in, Inside}
 use Rattle.scan.specs.Runs.{Run}
+use Rattle.scan.proofs.Slices.{byte-inside, byte-outside, between-cons}
 use Rattle.tokens.specs.declared.number.DigitsAt.{DigitsAt}
 use Rattle.tokens.specs.declared.number.IntegerAt.{IntegerAt}
-use Rattle.tokens.specs.Answers.{LedBy, ReadsDigits, Signs, ReadsInteger, digits-found}
-use Rattle.scan.specs.Founds.{found-by}
-use Rattle.scan.proofs.Slices.{here, beyond, between-cons}
+use Rattle.tokens.specs.Answers.{led, ReadsDigits, Signs, ReadsInteger, digits-found, integer-found}
+use Rattle.tokens.proofs.Readers.{by-byte, mapped-by}
 
 abbrev pub no-digits : ℕ → DigitsAt
 no-digits at = record { ok = false; digits = record { start = at; end = at } }
@@ -23,71 +24,45 @@ no-digits at = record { ok = false; digits = record { start = at; end = at } }
 -- RUNS OF DIGITS
 
 module _ {s : List ℕ} {at : ℕ} where
-  pub led₁ : {b : Bool} → at < length s → not b ≡ true → LedBy b s at (no-digits at)
-  led₁ {b} h e = record { is = rw (not-true b e); ahead = omega arith; inside = record { forward = omega arith; within = omega arith } }
+  pub led₁ : (b : Bool) → at ≤ length s → not b ≡ true → ReadsDigits (led b s at) s at (no-digits at)
+  led₁ b h e = record { is = rw (not-true b e); ahead = omega arith; inside = record { forward = omega arith; within = h } }
 
-  pub led₂ : {b : Bool} {e : ℕ} → at < length s → not b ≡ false → Run digit s (at + 1) e → LedBy b s at (record { ok = true; digits = record { start = at; end = e } })
-  led₂ {b} {e} h q w = record {
+  pub led₂ : (b : Bool) {e : ℕ} → at < length s → not b ≡ false → Run digit s (at + 1) e → ReadsDigits (led b s at) s at (record { ok = true; digits = record { start = at; end = e } })
+  led₂ b {e} h q w = record {
     is = rw (not-false b q, ← w .bytes, ← w .rest, ← between-cons s at e (omega (arith, w .from)) (w .within));
     ahead = omega arith;
     inside = record { forward = omega (arith, w .from); within = w .within };
   }
 
--- digits whose first is of a class
-module _ (p : ℕ → Bool) (f : List ℕ → Found (List ℕ)) (f-end : f [] ≡ none)
-    (f-byte : (c : ℕ) (u : List ℕ) → f (c ∷ u) ≡ pick (p c) (found (c ∷ run digit u) (past digit u)) none) {s : List ℕ} {at : ℕ} where
-  ends-here : at ≤ length s → length s ≤ at → ReadsDigits f s at (no-digits at)
-  ends-here h g = record { is = rw (beyond s at g) f-end; ahead = omega arith; inside = record { forward = omega arith; within = h } }
+-- digits whose first is of a class that 0 is not of
+module _ (s : List ℕ) (at : ℕ) where
+  unsigned-is : unsigned (drop at s) ≡ led (nonzero (getD s at 0)) s at
+  unfolding unsigned nonzero
+  unsigned-is = by-byte unsigned (λ c w u. pick (nonzero c) (found (c ∷ run digit u) (past digit u)) none) (λ c u. refl) refl s at
 
-  led-here : {b : Bool} {o : DigitsAt} → at < length s → b ≡ p (getD s at 0) → LedBy b s at o → ReadsDigits f s at o
-  led-here h e w = record {
-    is = ap f (here s at h) ∙ f-byte (getD s at 0) (drop (at + 1) s) ∙ rw (← e) (w .is);
-    ahead = w .ahead;
-    inside = w .inside;
-  }
+  digits-is : digits (drop at s) ≡ led (digit (getD s at 0)) s at
+  unfolding digits digit
+  digits-is = by-byte digits (λ c w u. pick (digit c) (found (c ∷ run digit u) (past digit u)) none) (λ c u. refl) refl s at
 
-unsigned-end : unsigned [] ≡ none
-unfolding unsigned
-unsigned-end = refl
+  pub unsigned-read : {b : Bool} {o : DigitsAt} → b ≡ nonzero (getD s at 0) → ReadsDigits (led b s at) s at o → ReadsDigits (unsigned (drop at s)) s at o
+  unsigned-read e w = record { is = unsigned-is ∙ rw (← e) (w .is); ahead = w .ahead; inside = w .inside }
 
-unsigned-byte : (c : ℕ) (u : List ℕ) → unsigned (c ∷ u) ≡ pick (nonzero c) (found (c ∷ run digit u) (past digit u)) none
-unfolding unsigned
-unsigned-byte c u = refl
+  pub digits-read : {b : Bool} {o : DigitsAt} → b ≡ digit (getD s at 0) → ReadsDigits (led b s at) s at o → ReadsDigits (digits (drop at s)) s at o
+  digits-read e w = record { is = digits-is ∙ rw (← e) (w .is); ahead = w .ahead; inside = w .inside }
 
-digits-end : digits [] ≡ none
-unfolding digits
-digits-end = refl
+  -- a byte of the class is inside the text
+  pub nonzero-inside : {b : Bool} → b ≡ nonzero (getD s at 0) → b ≡ true → at < length s
+  unfolding nonzero
+  nonzero-inside e t = byte-inside s at (λ z. let y : _≡_ {A = ℕ} 0 1 = cc (e, t, z) in omega arith)
 
-digits-byte : (c : ℕ) (u : List ℕ) → digits (c ∷ u) ≡ pick (digit c) (found (c ∷ run digit u) (past digit u)) none
-unfolding digits
-digits-byte c u = refl
-
-module _ {s : List ℕ} {at : ℕ} where
-  pub unsigned₁ : at ≤ length s → length s ≤ at → ReadsDigits unsigned s at (no-digits at)
-  unsigned₁ = ends-here nonzero unsigned unsigned-end unsigned-byte
-
-  pub unsigned₂ : {b : Bool} {o : DigitsAt} → at < length s → b ≡ nonzero (getD s at 0) → LedBy b s at o → ReadsDigits unsigned s at o
-  unsigned₂ = led-here nonzero unsigned unsigned-end unsigned-byte
-
-  pub digits₁ : at ≤ length s → length s ≤ at → ReadsDigits digits s at (no-digits at)
-  digits₁ = ends-here digit digits digits-end digits-byte
-
-  pub digits₂ : {b : Bool} {o : DigitsAt} → at < length s → b ≡ digit (getD s at 0) → LedBy b s at o → ReadsDigits digits s at o
-  digits₂ = led-here digit digits digits-end digits-byte
+  pub digit-inside : {b : Bool} → b ≡ digit (getD s at 0) → b ≡ true → at < length s
+  unfolding digit
+  digit-inside e t = byte-inside s at (λ z. let y : _≡_ {A = ℕ} 0 1 = cc (e, t, z) in omega arith)
 
 -- INTEGERS
 
-abbrev pub no-integer : ℕ → IntegerAt
-no-integer at = record { ok = false; integer = record { negative = false; digits = record { start = at; end = at } } }
-
-pub mapped-by : {A B : Type 0} (g : A → B) (b : Bool) (a : A) (t : List ℕ) → mapped g (found-by b a t) ≡ found-by b (g a) t
-unfolding mapped
-mapped-by g true a t = refl
-mapped-by g false a t = refl
-
 -- digits under a sign, as the numeral
-signs-numeral : (s : List ℕ) (b : Bool) (d : DigitsAt) (o : IntegerAt) → Signs b d o
-    → mapped (numeral b) (digits-found s d) ≡ found-by (o .ok) (numeral-in s (o .integer)) (drop (o .integer .digits .end) s)
+signs-numeral : (s : List ℕ) (b : Bool) (d : DigitsAt) (o : IntegerAt) → Signs b d o → mapped (numeral b) (digits-found s d) ≡ integer-found s o
 signs-numeral s b d o w = rw (w .ok, w .is) (mapped-by (numeral b) (d .ok) (digits-in s (d .digits)) (drop (d .digits .end) s))
 
 signs-inside : {s : List ℕ} {b : Bool} {d : DigitsAt} {o : IntegerAt} → Signs b d o → Inside s (d .digits) → Inside s (o .integer .digits)
@@ -96,39 +71,34 @@ signs-inside w i = rw (w .is) i
 signs-start : {b : Bool} {d : DigitsAt} {o : IntegerAt} → Signs b d o → o .integer .digits .start ≡ d .digits .start
 signs-start w = rw (w .is)
 
--- what each first byte leaves
 module _ (s : List ℕ) (at : ℕ) where
-  minus-step : at < length s → getD s at 0 ≡ minus → integer (drop at s) ≡ mapped (numeral true) (unsigned (drop (at + 1) s))
-  unfolding integer
-  minus-step h e = rw (here s at h, e)
+  integer-is : integer (drop at s)
+      ≡ pick (eqb (getD s at 0) minus) (mapped (numeral true) (unsigned (drop (at + 1) s)))
+      (pick (eqb (getD s at 0) plus) (mapped (numeral false) (unsigned (drop (at + 1) s)))
+      (mapped (numeral false) (unsigned (drop at s))))
+  unfolding integer mapped unsigned
+  integer-is =
+      by-byte integer
+      (λ c w u. pick (eqb c minus) (mapped (numeral true) (unsigned u)) (pick (eqb c plus) (mapped (numeral false) (unsigned u)) (mapped (numeral false) (unsigned w))))
+      (λ c u. refl) refl s at
 
-  plus-step : at < length s → (getD s at 0 ≡ minus → ⊥) → getD s at 0 ≡ plus → integer (drop at s) ≡ mapped (numeral false) (unsigned (drop (at + 1) s))
-  unfolding integer
-  plus-step h n e = rw (here s at h, e)
+  -- after a minus, after a plus, and without a sign
+  from-digits : (b : Bool) (from : ℕ) {d : DigitsAt} {o : IntegerAt} → at ≤ from → integer (drop at s) ≡ mapped (numeral b) (unsigned (drop from s))
+      → ReadsDigits (unsigned (drop from s)) s from d → Signs b d o → ReadsInteger (integer (drop at s)) s at o
+  from-digits b from {d} {o} l e w v = record {
+    is = e ∙ ap (λ (x : Found (List ℕ)). mapped (numeral b) x) (w .is) ∙ signs-numeral s b d o v;
+    ahead = omega (arith, w .ahead, signs-start v);
+    inside = signs-inside v (w .inside);
+  }
 
-  plain-step : at < length s → (getD s at 0 ≡ minus → ⊥) → (getD s at 0 ≡ plus → ⊥) → integer (drop at s) ≡ mapped (numeral false) (unsigned (drop at s))
-  unfolding integer
-  plain-step h n m = rw (here s at h, ne-eqb _ _ n, ne-eqb _ _ m)
+  pub integer₁ : {d : DigitsAt} {o : IntegerAt} → getD s at 0 ≡ minus → ReadsDigits (unsigned (drop (at + 1) s)) s (at + 1) d → Signs true d o
+      → ReadsInteger (integer (drop at s)) s at o
+  integer₁ e w v = from-digits true (at + 1) (omega arith) (integer-is ∙ rw (eq-eqb _ _ e)) w v
 
-module _ {s : List ℕ} {at : ℕ} where
-  pub integer₁ : at ≤ length s → length s ≤ at → ReadsInteger integer s at (no-integer at)
-  unfolding integer
-  integer₁ h g = record { is = rw (beyond s at g); ahead = omega arith; inside = record { forward = omega arith; within = h } }
+  pub integer₂ : {d : DigitsAt} {o : IntegerAt} → (getD s at 0 ≡ minus → ⊥) → getD s at 0 ≡ plus → ReadsDigits (unsigned (drop (at + 1) s)) s (at + 1) d → Signs false d o
+      → ReadsInteger (integer (drop at s)) s at o
+  integer₂ n e w v = from-digits false (at + 1) (omega arith) (integer-is ∙ rw (ne-eqb _ _ n, eq-eqb _ _ e)) w v
 
-  -- behind a minus, behind a plus, and without a sign
-  module _ (b : Bool) (from : ℕ) {d : DigitsAt} {o : IntegerAt} (w : ReadsDigits unsigned s from d) (v : Signs b d o) where
-    from-digits : at ≤ from → integer (drop at s) ≡ mapped (numeral b) (unsigned (drop from s)) → ReadsInteger integer s at o
-    from-digits l e = record {
-      is = e ∙ ap (λ (x : Found (List ℕ)). mapped (numeral b) x) (w .is) ∙ signs-numeral s b d o v;
-      ahead = omega (arith, w .ahead, signs-start v);
-      inside = signs-inside v (w .inside);
-    }
-
-  pub integer₂ : {d : DigitsAt} {o : IntegerAt} → at < length s → getD s at 0 ≡ minus → ReadsDigits unsigned s (at + 1) d → Signs true d o → ReadsInteger integer s at o
-  integer₂ h e w v = from-digits true (at + 1) w v (omega arith) (minus-step s at h e)
-
-  pub integer₃ : {d : DigitsAt} {o : IntegerAt} → at < length s → (getD s at 0 ≡ minus → ⊥) → getD s at 0 ≡ plus → ReadsDigits unsigned s (at + 1) d → Signs false d o → ReadsInteger integer s at o
-  integer₃ h n e w v = from-digits false (at + 1) w v (omega arith) (plus-step s at h n e)
-
-  pub integer₄ : {d : DigitsAt} {o : IntegerAt} → at < length s → (getD s at 0 ≡ minus → ⊥) → (getD s at 0 ≡ plus → ⊥) → ReadsDigits unsigned s at d → Signs false d o → ReadsInteger integer s at o
-  integer₄ h n m w v = from-digits false at w v (omega arith) (plain-step s at h n m)
+  pub integer₃ : {d : DigitsAt} {o : IntegerAt} → (getD s at 0 ≡ minus → ⊥) → (getD s at 0 ≡ plus → ⊥) → ReadsDigits (unsigned (drop at s)) s at d → Signs false d o
+      → ReadsInteger (integer (drop at s)) s at o
+  integer₃ n m w v = from-digits false at (omega arith) (integer-is ∙ rw (ne-eqb _ _ n, ne-eqb _ _ m)) w v

@@ -5,16 +5,17 @@ use crate::power::closes;
 use label::Rules;
 use label::WrittenFactor;
 use scan::class::both;
+use scan::class::byte_at;
 use scan::class::is_sign;
 use scan::run::digits;
 use scan::run::zeros;
 ghost use Prim.Native.Nat.{_≤_};
 ghost use mathlib.Core.Path.{_≡_};
-ghost use lib.ListN.{length};
-ghost use Rattle.label.specs.Parse.{plain-digits, ten};
+ghost use lib.ListN.{length, drop};
+ghost use Rattle.label.specs.Lexical.{ten-to};
+ghost use Rattle.label.specs.Parse.{closed, plain-digits, plain-factor, wrapped, starred-factor, ten-factor, ten, factor};
 ghost use Rattle.label.specs.Ranges.{between, Inside};
-ghost use Rattle.tokens.specs.Answers.{Tens, ClosesTens, ReadsWrapped, ReadsStarred, ReadsPlain, ReadsTen};
-ghost use Rattle.tokens.specs.Answers.{ReadsFactorBy};
+ghost use Rattle.tokens.specs.Answers.{integer-found, ReadsFactor, Tens};
 
 // A factor from a place on, up to `next`, or none where `ok` is false.
 pub struct FactorAt {
@@ -42,7 +43,7 @@ pub fn is_plain(s: &[u8], start: usize, end: usize) -> bool
 pub fn plain_factor(r: Rules, s: &[u8], start: usize, end: usize) -> FactorAt
     requires { ⌜ start ≤ end ⌝ }
     requires { ⌜ end ≤ length (now s) ⌝ }
-    ensures { λ o. ⌜ ReadsPlain r (now (s .entry)) start end o ⌝ }
+    ensures { λ o. ⌜ ReadsFactor (plain-factor r (between (now (s .entry)) start end) (drop end (now (s .entry)))) (now (s .entry)) end o ⌝ }
 {
     if both(is_plain(s, start, end), r.plain) {
         return FactorAt {
@@ -74,19 +75,12 @@ pub fn tens(i: IntegerAt) -> FactorAt
 // An integer as a power of ten, and the closing bracket.
 pub fn closed_tens(s: &[u8], i: IntegerAt) -> FactorAt
     requires { ⌜ Inside (now s) (i .integer .digits) ⌝ }
-    ensures { λ o. ⌜ ClosesTens (now (s .entry)) i o ⌝ }
+    ensures { λ o. ⌜ ReadsFactor (closed ten-to (integer-found (now (s .entry)) i)) (now (s .entry)) (i .integer .digits .end) o ⌝ }
 {
     let n = i.integer;
     let d = n.digits;
     let end = d.end;
-    if !i.ok {
-        return FactorAt {
-            ok: false,
-            next: end,
-            factor: WrittenFactor::Absent,
-        };
-    }
-    if closes(s, end) {
+    if both(i.ok, closes(s, end)) {
         return FactorAt {
             ok: true,
             next: end + 1,
@@ -103,16 +97,9 @@ pub fn closed_tens(s: &[u8], i: IntegerAt) -> FactorAt
 // An integer, bare or in brackets.
 pub fn wrapped(r: Rules, s: &[u8], at: usize) -> FactorAt
     requires { ⌜ at ≤ length (now s) ⌝ }
-    ensures { λ o. ⌜ ReadsWrapped r (now (s .entry)) at o ⌝ }
+    ensures { λ o. ⌜ ReadsFactor (wrapped r (drop at (now (s .entry)))) (now (s .entry)) at o ⌝ }
 {
-    if s.len() <= at {
-        return FactorAt {
-            ok: false,
-            next: at,
-            factor: WrittenFactor::Absent,
-        };
-    }
-    if both(s[at] == b'(', r.wrapped) {
+    if both(byte_at(s, at) == b'(', r.wrapped) {
         return closed_tens(s, integer(s, at + 1));
     }
     tens(integer(s, at))
@@ -121,16 +108,9 @@ pub fn wrapped(r: Rules, s: &[u8], at: usize) -> FactorAt
 // From behind the first of two stars.
 pub fn starred_factor(r: Rules, s: &[u8], at: usize) -> FactorAt
     requires { ⌜ at ≤ length (now s) ⌝ }
-    ensures { λ o. ⌜ ReadsStarred r (now (s .entry)) at o ⌝ }
+    ensures { λ o. ⌜ ReadsFactor (starred-factor r (drop at (now (s .entry)))) (now (s .entry)) at o ⌝ }
 {
-    if s.len() <= at {
-        return FactorAt {
-            ok: false,
-            next: at,
-            factor: WrittenFactor::Absent,
-        };
-    }
-    if s[at] == b'*' {
+    if byte_at(s, at) == b'*' {
         return wrapped(r, s, at + 1);
     }
     FactorAt {
@@ -144,12 +124,9 @@ pub fn starred_factor(r: Rules, s: &[u8], at: usize) -> FactorAt
 pub fn ten_factor(r: Rules, s: &[u8], start: usize, end: usize) -> FactorAt
     requires { ⌜ start ≤ end ⌝ }
     requires { ⌜ end ≤ length (now s) ⌝ }
-    ensures { λ o. ⌜ ReadsTen r (now (s .entry)) start end o ⌝ }
+    ensures { λ o. ⌜ ReadsFactor (ten-factor r (between (now (s .entry)) start end) (drop end (now (s .entry)))) (now (s .entry)) end o ⌝ }
 {
-    if s.len() <= end {
-        return plain_factor(r, s, start, end);
-    }
-    let c = s[end];
+    let c = byte_at(s, end);
     if both(is_sign(c), r.signed) {
         return tens(integer(s, end));
     }
@@ -175,9 +152,9 @@ pub fn is_ten(s: &[u8], start: usize, end: usize) -> bool
 }
 
 // The factor that a digit at `at` begins.
-pub fn factor(r: Rules, s: &[u8], at: usize) -> FactorAt
+pub fn factor_at(r: Rules, s: &[u8], at: usize) -> FactorAt
     requires { ⌜ at ≤ length (now s) ⌝ }
-    ensures { λ o. ⌜ ReadsFactorBy r (now (s .entry)) at o ⌝ }
+    ensures { λ o. ⌜ ReadsFactor (factor r (drop at (now (s .entry)))) (now (s .entry)) at o ⌝ }
 {
     let end = digits(s, at);
     if is_ten(s, at, end) {

@@ -1,12 +1,15 @@
 // Digits and integers.
 use label::Digits;
 use label::SignedDigits;
+use scan::class::byte_at;
 use scan::class::is_digit;
 use scan::class::is_nonzero;
 ghost use Prim.Native.Nat.{_≤_, _<_};
-ghost use lib.ListN.{length};
+ghost use mathlib.Core.Path.{_≡_};
+ghost use mathlib.Core.Bool.{true};
+ghost use lib.ListN.{length, drop};
 ghost use Rattle.label.specs.Parse.{unsigned, digits, integer};
-ghost use Rattle.tokens.specs.Answers.{LedBy, ReadsDigits, ReadsInteger, Signs};
+ghost use Rattle.tokens.specs.Answers.{led, ReadsDigits, ReadsInteger, Signs};
 
 // Digits from a place on, or none where `ok` is false.
 pub struct DigitsAt {
@@ -22,8 +25,9 @@ pub struct IntegerAt {
 
 // A byte that may be a first digit, as `first` says, and further digits.
 fn led_by(s: &[u8], at: usize, first: bool) -> DigitsAt
-    requires { ⌜ at < length (now s) ⌝ }
-    ensures { λ o. ⌜ LedBy first (now (s .entry)) at o ⌝ }
+    requires { ⌜ at ≤ length (now s) ⌝ }
+    requires { ⌜ (first ≡ true → at < length (now s)) ⌝ }
+    ensures { λ o. ⌜ ReadsDigits (led first (now (s .entry)) at) (now (s .entry)) at o ⌝ }
 {
     if !first {
         return DigitsAt {
@@ -41,29 +45,17 @@ fn led_by(s: &[u8], at: usize, first: bool) -> DigitsAt
 // A digit 1 to 9, further digits.
 pub fn unsigned(s: &[u8], at: usize) -> DigitsAt
     requires { ⌜ at ≤ length (now s) ⌝ }
-    ensures { λ o. ⌜ ReadsDigits unsigned (now (s .entry)) at o ⌝ }
+    ensures { λ o. ⌜ ReadsDigits (unsigned (drop at (now (s .entry)))) (now (s .entry)) at o ⌝ }
 {
-    if s.len() <= at {
-        return DigitsAt {
-            ok: false,
-            digits: Digits { start: at, end: at },
-        };
-    }
-    led_by(s, at, is_nonzero(s[at]))
+    led_by(s, at, is_nonzero(byte_at(s, at)))
 }
 
 // One or more digits.
 pub fn some_digits(s: &[u8], at: usize) -> DigitsAt
     requires { ⌜ at ≤ length (now s) ⌝ }
-    ensures { λ o. ⌜ ReadsDigits digits (now (s .entry)) at o ⌝ }
+    ensures { λ o. ⌜ ReadsDigits (digits (drop at (now (s .entry)))) (now (s .entry)) at o ⌝ }
 {
-    if s.len() <= at {
-        return DigitsAt {
-            ok: false,
-            digits: Digits { start: at, end: at },
-        };
-    }
-    led_by(s, at, is_digit(s[at]))
+    led_by(s, at, is_digit(byte_at(s, at)))
 }
 
 // Digits under a sign.
@@ -80,19 +72,9 @@ pub fn under_sign(negative: bool, d: DigitsAt) -> IntegerAt
 // An optional sign, a digit 1 to 9, further digits.
 pub fn integer(s: &[u8], at: usize) -> IntegerAt
     requires { ⌜ at ≤ length (now s) ⌝ }
-    ensures { λ o. ⌜ ReadsInteger integer (now (s .entry)) at o ⌝ }
+    ensures { λ o. ⌜ ReadsInteger (integer (drop at (now (s .entry)))) (now (s .entry)) at o ⌝ }
 {
-    if s.len() <= at {
-        let digits = Digits { start: at, end: at };
-        return IntegerAt {
-            ok: false,
-            integer: SignedDigits {
-                negative: false,
-                digits,
-            },
-        };
-    }
-    let c = s[at];
+    let c = byte_at(s, at);
     if c == b'-' {
         return under_sign(true, unsigned(s, at + 1));
     }

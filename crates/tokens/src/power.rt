@@ -9,16 +9,18 @@ use label::Rules;
 use label::SignedDigits;
 use label::WrittenPower;
 use scan::class::both;
+use scan::class::byte_at;
 use scan::class::is_digit;
 use scan::class::is_sign;
-ghost use Prim.Native.Nat.{_≤_, _<_};
+ghost use Prim.Native.Nat.{ℕ, _≤_, _<_, _+_};
 ghost use mathlib.Core.Path.{_≡_};
 ghost use mathlib.Core.Bool.{_||_};
+ghost use mathlib.Core.List.{List};
 ghost use lib.ListN.{length, drop};
 ghost use Rattle.label.specs.Bytes.{digit, close-bracket};
-ghost use Rattle.label.specs.Parse.{sign, bracketed, power};
-ghost use Rattle.label.specs.Ranges.{Inside, PowerInside};
-ghost use Rattle.tokens.specs.Answers.{begins, ReadsPower, Closes, ReadsOn, Powers, StarredFrom, ReadsExponent};
+ghost use Rattle.label.specs.Parse.{closed, sign, bracketed-on, bracketed, power, starred, exponent};
+ghost use Rattle.label.specs.Ranges.{numeral-in, written-in, Inside, PowerInside};
+ghost use Rattle.tokens.specs.Answers.{digits-found, begins, ReadsPower, Powers};
 
 // A power from a place on, up to `next`, or none where `ok` is false.
 pub struct PowerAt {
@@ -32,17 +34,14 @@ pub fn closes(s: &[u8], at: usize) -> bool
     requires { ⌜ at ≤ length (now s) ⌝ }
     ensures { λ r. ⌜ r ≡ begins close-bracket (drop at (now (s .entry))) ⌝ }
 {
-    if s.len() <= at {
-        return false;
-    }
-    s[at] == b')'
+    byte_at(s, at) == b')'
 }
 
 // The power that digits end, where the closing bracket stands behind them.
-pub fn closed(s: &[u8], d: DigitsAt, power: WrittenPower) -> PowerAt
+pub fn closed_power(s: &[u8], d: DigitsAt, power: WrittenPower) -> PowerAt
     requires { ⌜ Inside (now s) (d .digits) ⌝ }
     requires { ⌜ PowerInside (now s) power ⌝ }
-    ensures { λ o. ⌜ Closes (now (s .entry)) d power o ⌝ }
+    ensures { λ o. ⌜ ReadsPower (closed (λ (ds : List ℕ). written-in (now (s .entry)) power) (digits-found (now (s .entry)) d)) (now (s .entry)) (d .digits .end) o ⌝ }
 {
     let digits = d.digits;
     let end = digits.end;
@@ -64,16 +63,9 @@ pub fn closed(s: &[u8], d: DigitsAt, power: WrittenPower) -> PowerAt
 pub fn bracketed_on(s: &[u8], n: SignedDigits, at: usize) -> PowerAt
     requires { ⌜ at ≤ length (now s) ⌝ }
     requires { ⌜ Inside (now s) (n .digits) ⌝ }
-    ensures { λ o. ⌜ ReadsOn (now (s .entry)) n at o ⌝ }
+    ensures { λ o. ⌜ ReadsPower (bracketed-on (numeral-in (now (s .entry)) n) (drop at (now (s .entry)))) (now (s .entry)) at o ⌝ }
 {
-    if s.len() <= at {
-        return PowerAt {
-            ok: false,
-            next: at,
-            power: WrittenPower::Unwritten,
-        };
-    }
-    let c = s[at];
+    let c = byte_at(s, at);
     if c == b')' {
         return PowerAt {
             ok: true,
@@ -84,12 +76,12 @@ pub fn bracketed_on(s: &[u8], n: SignedDigits, at: usize) -> PowerAt
     if c == b'.' {
         let d = some_digits(s, at + 1);
         let digits = d.digits;
-        return closed(s, d, WrittenPower::Decimal(n, digits));
+        return closed_power(s, d, WrittenPower::Decimal(n, digits));
     }
     if c == b'/' {
         let d = unsigned(s, at + 1);
         let digits = d.digits;
-        return closed(s, d, WrittenPower::Fraction(n, digits));
+        return closed_power(s, d, WrittenPower::Fraction(n, digits));
     }
     PowerAt {
         ok: false,
@@ -101,7 +93,7 @@ pub fn bracketed_on(s: &[u8], n: SignedDigits, at: usize) -> PowerAt
 // A power in brackets, from behind the opening one.
 pub fn bracketed(s: &[u8], at: usize) -> PowerAt
     requires { ⌜ at ≤ length (now s) ⌝ }
-    ensures { λ o. ⌜ ReadsPower bracketed (now (s .entry)) at o ⌝ }
+    ensures { λ o. ⌜ ReadsPower (bracketed (drop at (now (s .entry)))) (now (s .entry)) at o ⌝ }
 {
     let i = integer(s, at);
     if !i.ok {
@@ -132,16 +124,9 @@ pub fn whole(i: IntegerAt) -> PowerAt
 // An integer, or a power in brackets.
 pub fn power(s: &[u8], at: usize) -> PowerAt
     requires { ⌜ at ≤ length (now s) ⌝ }
-    ensures { λ o. ⌜ ReadsPower power (now (s .entry)) at o ⌝ }
+    ensures { λ o. ⌜ ReadsPower (power (drop at (now (s .entry)))) (now (s .entry)) at o ⌝ }
 {
-    if s.len() <= at {
-        return PowerAt {
-            ok: false,
-            next: at,
-            power: WrittenPower::Unwritten,
-        };
-    }
-    if s[at] == b'(' {
+    if byte_at(s, at) == b'(' {
         return bracketed(s, at + 1);
     }
     whole(integer(s, at))
@@ -150,17 +135,10 @@ pub fn power(s: &[u8], at: usize) -> PowerAt
 // Two stars and a power, or no power. A star stands at `at`.
 pub fn starred(s: &[u8], at: usize) -> PowerAt
     requires { ⌜ at < length (now s) ⌝ }
-    ensures { λ o. ⌜ StarredFrom (now (s .entry)) at o ⌝ }
+    ensures { λ o. ⌜ ReadsPower (starred (drop at (now (s .entry))) (drop (at + 1) (now (s .entry)))) (now (s .entry)) at o ⌝ }
 {
     let second = at + 1;
-    if s.len() <= second {
-        return PowerAt {
-            ok: true,
-            next: at,
-            power: WrittenPower::Unwritten,
-        };
-    }
-    if s[second] == b'*' {
+    if byte_at(s, second) == b'*' {
         return power(s, second + 1);
     }
     PowerAt {
@@ -181,18 +159,11 @@ pub fn starts_integer(c: u8) -> bool
 }
 
 // The power after a spelling, if any.
-pub fn exponent(r: Rules, s: &[u8], at: usize) -> PowerAt
+pub fn power_after(r: Rules, s: &[u8], at: usize) -> PowerAt
     requires { ⌜ at ≤ length (now s) ⌝ }
-    ensures { λ o. ⌜ ReadsExponent r (now (s .entry)) at o ⌝ }
+    ensures { λ o. ⌜ ReadsPower (exponent r (drop at (now (s .entry)))) (now (s .entry)) at o ⌝ }
 {
-    if s.len() <= at {
-        return PowerAt {
-            ok: true,
-            next: at,
-            power: WrittenPower::Unwritten,
-        };
-    }
-    let c = s[at];
+    let c = byte_at(s, at);
     if both(starts_integer(c), r.direct) {
         return whole(integer(s, at));
     }

@@ -16,9 +16,9 @@ unit-spec =
     (λ c κs. search needs)
     (λ c.
     let p = c .before .before .before .before .before .before .before in
-    omega (arith, p .exponent .ensures .reads .within, p .before .before .before .before .before .good .1 .0))
+    omega (arith, p .power-after .ensures .within, p .before .before .before .before .before .good .1 .0))
     (λ c.
     let e = c .before .before .before .before in
     let p = e .before .before .before in
     let w = p .before .before .before in
-    unit₃ (w .spelling-at .ensures) (p .before .if1 .left) (p .exponent .ensures) {m = e .exponent2 .result} (w .before .before .pre) (e .before .if2 .left) (e .exponent2 .ensures .0) (c .keep .ensures)))
+    unit₃ (w .spelling-at .ensures) (p .before .if1 .left) (p .power-after .ensures) {m = e .exponent .result} (w .before .before .pre) (e .before .if2 .left) (e .exponent .ensures .0) (c .keep .ensures)))

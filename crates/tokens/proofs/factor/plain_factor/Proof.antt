@@ -1,5 +1,5 @@
-use native.Mathlib.Omega.{arith}
-use Rattle.tokens.proofs.FactorSteps.{plain₁, plain₂, zeros-room}
+-- `tokens::factor::plain_factor` meets its contract: each way is one of `FactorSteps`.
+use Rattle.tokens.proofs.FactorSteps.{zeros-room, plain₁, plain₂}
 use borrow.Author.Needs.{needs}
 use Rattle.tokens.proofs.factor.plain_factor.Statement.{statement}
 use Rattle.tokens.proofs.factor.plain_factor.Tie as tie
@@ -17,10 +17,10 @@ sub-t8 : tie.Need-sub-t8
 sub-t8 c = let a = c .before .before .before .before .args in zeros-room (a .s .now) (a .start) (a .end) (a .r .plain) (c .before .both .ensures) (c .before .before .is-plain .ensures) (c .if1 .taken) .1
 
 returns : tie.Need-returns
-returns c = search (plain₁, arith)
+returns c = let start = c .before .before .before .before in plain₁ (start .args .r) (start .args .s .now) (start .args .start) (start .args .end) (c .before .both .ensures) (c .before .before .is-plain .ensures) (start .pre .1) (c .if1 .taken)
 
 returns-2 : tie.Need-returns-2
-returns-2 c = search (plain₂, arith)
+returns-2 c = let start = c .before .before .before .before in plain₂ (start .args .r) (start .args .s .now) (start .args .start) (start .args .end) (c .before .both .ensures) (c .before .before .is-plain .ensures) (start .pre .1) (c .if1 .left)
 
 pub plain-factor-spec : {M : Type 1} → statement M
 plain-factor-spec =

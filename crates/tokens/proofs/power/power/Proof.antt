@@ -1,23 +1,26 @@
+-- `tokens::power::power` meets its contract: each way is one of `PowerSteps`.
 use native.Mathlib.Omega.{arith}
-use Rattle.tokens.proofs.PowerSteps.{power₁, power₂, power₃}
+use Rattle.label.specs.Bytes.{open-bracket}
+use Rattle.tokens.proofs.Readers.{byte-found, byte-is, byte-not}
+use Rattle.tokens.proofs.PowerSteps.{power₁, power₂}
 use borrow.Author.Needs.{needs}
 use Rattle.tokens.proofs.power.power.Statement.{statement}
 use Rattle.tokens.proofs.power.power.Tie as tie
 
-returns : tie.Need-returns
-returns c = search (power₁, arith)
-
-shared-slice-read-if2 : tie.Need-shared-slice-read-if2
-shared-slice-read-if2 c = search needs
+byte-at-requires : tie.Need-byte-at-requires
+byte-at-requires c κs = search needs
 
 add-bracketed : tie.Need-add-bracketed
 add-bracketed c = search needs
 
 bracketed-requires : tie.Need-bracketed-requires
-bracketed-requires c κs = search needs
+bracketed-requires c κs =
+    let a = c .before .before .before .args in
+    let h = byte-found (a .s .now) (a .at) open-bracket (omega arith) (byte-is (c .before .byte-at .ensures) (c .if1 .taken)) in
+    omega arith
 
-returns-2 : tie.Need-returns-2
-returns-2 c = search (power₂, arith)
+returns : tie.Need-returns
+returns c = let a = c .before .before .before .before .args in power₁ (a .s .now) (a .at) (byte-is (c .before .before .byte-at .ensures) (c .before .if1 .taken)) (c .bracketed .ensures)
 
 integer-requires : tie.Need-integer-requires
 integer-requires c κs = search needs
@@ -25,18 +28,17 @@ integer-requires c κs = search needs
 whole-requires : tie.Need-whole-requires
 whole-requires c κs = search needs
 
-returns-3 : tie.Need-returns-3
-returns-3 c = search (power₃, arith)
+returns-2 : tie.Need-returns-2
+returns-2 c = let a = c .before .before .before .before .before .args in power₂ (a .s .now) (a .at) (byte-not (c .before .before .before .byte-at .ensures) (c .before .before .if1 .left)) (c .before .integer .ensures) (c .whole .ensures)
 
 pub power-spec : {M : Type 1} → statement M
 power-spec =
     tie.close
     (tie.spec
-    returns
-    shared-slice-read-if2
+    byte-at-requires
     add-bracketed
     bracketed-requires
-    returns-2
+    returns
     integer-requires
     whole-requires
-    returns-3)
+    returns-2)

@@ -14,7 +14,7 @@ use Rattle.label.specs.Reading.{term}
 use Rattle.label.specs.Reading as spec
 use Rattle.label.specs.Symbols.{Symbol as Meant, symbol, known, unknown}
 use Rattle.label.specs.Ranges.{between}
-use Rattle.scan.proofs.Slices.{length-between}
+use Rattle.symbols.proofs.Parts.{length-between}
 use Rattle.symbols.specs.declared.Symbol.{Symbol}
 use Rattle.symbols.specs.Views.{place, symbol-in, Bounded, LettersAt}
 use Rattle.descent.specs.Terms.{Lent, count, term-at, terms, placed-in, InLabel, AllIn}
@@ -102,7 +102,7 @@ symbol-known s x i f = let e : getD x (32 + i) 0 ≡ suc (getD x (32 + i) 0 - 1)
 
 -- ALL TERMS
 
-all-but-last : {s : List ℕ} (xs : List held.Term) {x : held.Term} → AllIn s (xs ++ (x ∷ [])) → AllIn s xs × InLabel s x
+all-but-last : {s : List ℕ} (xs : List held.LentTerm) {x : held.LentTerm} → AllIn s (xs ++ (x ∷ [])) → AllIn s xs × InLabel s x
 all-but-last [] (AllIn.more j js) = (AllIn.none, j)
 all-but-last (y ∷ xs) (AllIn.more j js) = let r = all-but-last xs js in (AllIn.more j (r .0), r .1)
 

@@ -10,7 +10,7 @@ use borrow.Author.Tests.{not-true, not-false}
 use Rattle.label.specs.declared.Rules.{Rules}
 use Rattle.label.specs.Parse.{padded, spaced, joint-at, joint, leading-at, leading}
 use Rattle.scan.specs.Runs.{Run, is-space}
-use Rattle.scan.proofs.Slices.{here, beyond}
+use Rattle.symbols.proofs.Parts.{here, beyond}
 use Rattle.descent.specs.declared.joint.Joint.{Joint as Joined}
 use Rattle.label.proofs.Basics.{false-true}
 use Rattle.descent.specs.Joints.{separates, Pads, Joins, Spaces, Leads, slashed, Slashes}

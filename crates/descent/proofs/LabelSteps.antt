@@ -16,7 +16,7 @@ use Rattle.label.specs.Parse.{Found, none, found, factor, Parsed, refused, pars
 use Rattle.label.specs.Ranges.{factor-in, FactorInside}
 use Rattle.label.proofs.Basics.{false-true}
 use Rattle.scan.specs.Runs.{Run, is-space}
-use Rattle.scan.proofs.Slices.{here, beyond}
+use Rattle.symbols.proofs.Parts.{here, beyond}
 use Rattle.tokens.specs.declared.factor.FactorAt.{FactorAt}
 use Rattle.tokens.specs.Answers.{ReadsFactor}
 use Rattle.descent.specs.declared.whole.LabelRead.{LabelRead}

@@ -16,7 +16,7 @@ use Rattle.label.specs.Ranges.{between, written-in}
 use Rattle.label.proofs.Basics.{false-true}
 use Rattle.scan.specs.Spellings.{Spelled}
 use Rattle.scan.specs.declared.spelling.Spelling.{Spelling}
-use Rattle.scan.proofs.Slices.{here, beyond}
+use Rattle.symbols.proofs.Parts.{here, beyond}
 use Rattle.tokens.specs.declared.power.PowerAt.{PowerAt}
 use Rattle.tokens.specs.Answers.{begins, ReadsPower}
 use Rattle.tokens.proofs.Readers.{byte-no-close, begins-room, close-found}

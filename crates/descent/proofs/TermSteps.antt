@@ -14,7 +14,7 @@ use Rattle.label.specs.Lexical.{Part}
 use Rattle.label.specs.Limits.{exponent-of}
 use Rattle.label.specs.Split.{Placed, valued-unit, valued-units}
 use Rattle.values.specs.Given.{given}
-use Rattle.descent.specs.Terms.{Lent, lent, Roomy, count, broken, Empty, Term, term, term-at, terms, mark, Kept, placed-in, missing, InLabel, AllIn, Holds}
+use Rattle.descent.specs.Terms.{Lent, lent, Roomy, count, broken, Empty, LentTerm, term, term-at, terms, mark, Kept, placed-in, missing, InLabel, AllIn, Holds}
 
 -- terms that are the same one by one
 terms-same : (t u : Lent) (n : ℕ) → ((i : ℕ) → i < n → term-at u i ≡ term-at t i) → terms u n ≡ terms t n
@@ -133,7 +133,7 @@ unfolding valued-units valued-unit
 one-unit p true e q = rw (← q)
 one-unit p false e q = rw (← q)
 
-all-in-more : {s : List ℕ} {xs : List Term} {x : Term} → AllIn s xs → InLabel s x → AllIn s (xs ++ (x ∷ []))
+all-in-more : {s : List ℕ} {xs : List LentTerm} {x : LentTerm} → AllIn s xs → InLabel s x → AllIn s (xs ++ (x ∷ []))
 all-in-more AllIn.none i = AllIn.more i AllIn.none
 all-in-more (AllIn.more j js) i = AllIn.more j (all-in-more js i)
 

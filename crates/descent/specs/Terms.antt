@@ -38,20 +38,20 @@ pub record Empty (t : Lent) : Type 0 where
   pub unbroken : broken t ≡ 0
 
 -- a term: where its spelling starts and ends, and its exponent
-pub record Term : Type 0 where
+pub record LentTerm : Type 0 where
   pub start : ℕ
   pub end : ℕ
   pub exponent : ℤ
 
-abbrev pub term : ℕ → ℕ → ℤ → Term
+abbrev pub term : ℕ → ℕ → ℤ → LentTerm
 term a z x = record { start = a; end = z; exponent = x }
 
 -- term i of 32
-abbrev pub term-at : Lent → ℕ → Term
+abbrev pub term-at : Lent → ℕ → LentTerm
 term-at t i = term (getD (t .places) i 0) (getD (t .places) (32 + i) 0) (getD (t .exponents) i (pos 0))
 
 -- the first n terms
-unfoldable pub terms : Lent → ℕ → List Term
+unfoldable pub terms : Lent → ℕ → List LentTerm
 terms t zero = []
 terms t (suc n) = terms t n ++ (term-at t n ∷ [])
 
@@ -70,7 +70,7 @@ pub record Kept (t : Lent) (a z : ℕ) (x : ℤ) (ok : Bool) (u : Lent) : Type 0
 -- WHAT THEY STAND FOR
 
 -- a term as a unit of the label s
-abbrev pub placed-in : List ℕ → Term → Placed
+abbrev pub placed-in : List ℕ → LentTerm → Placed
 placed-in s x = record { spelling = between s (x .start) (x .end); exponent = record { 0 = x .exponent }; left = length s - x .start }
 
 -- 1 for no value
@@ -79,13 +79,13 @@ missing nothing = 1
 missing (some a) = 0
 
 -- a term's spelling lies in the label s
-pub record InLabel (s : List ℕ) (x : Term) : Type 0 where
+pub record InLabel (s : List ℕ) (x : LentTerm) : Type 0 where
   pub forward : x .start ≤ x .end
   pub within : x .end ≤ length s
 
-pub data AllIn (s : List ℕ) : List Term → Type 0 where
+pub data AllIn (s : List ℕ) : List LentTerm → Type 0 where
   none : AllIn s []
-  more : {x : Term} {xs : List Term} → InLabel s x → AllIn s xs → AllIn s (x ∷ xs)
+  more : {x : LentTerm} {xs : List LentTerm} → InLabel s x → AllIn s xs → AllIn s (x ∷ xs)
 
 -- the terms stand for these units: all are counted, it is told whether a power breaks its bound, and up to 32 are kept with their values
 pub record Holds (s : List ℕ) (t : Lent) (ps : List Part) : Type 0 where

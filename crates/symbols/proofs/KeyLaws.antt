@@ -14,7 +14,7 @@ use Rattle.label.proofs.Basics.{T→true, both, false-true, same-is}
 use Rattle.label.specs.Bytes.{all, same}
 use Rattle.label.specs.Ranges.{between}
 use Rattle.symbols.specs.Keys.{most-letters, key-from, key-of, agrees}
-use Rattle.symbols.proofs.Parts.{Bytes, part-none, part-cons, part-length, part-fits}
+use Rattle.symbols.proofs.Parts.{Bytes, between-none, between-cons, length-between, fits-between}
 
 -- MAKING A KEY
 
@@ -42,7 +42,7 @@ module _ {s : List ℕ} {start end k i : ℕ} (f : end - start ≤ most-letters)
       record {
         after = omega (arith, w .after);
         before = omega arith;
-        same = rw (part-cons s i end h l) at (w .same);
+        same = rw (between-cons s i end h l) at (w .same);
         size = rw (e, pow-suc 256 (i - start)) (omega (arith, w .size));
       }
 
@@ -50,7 +50,7 @@ pub keyed-end : (s : List ℕ) (start end k i : ℕ) → end ≤ i → Keyed s s
 unfolding key-from
 keyed-end s start end k i h w =
     let e : i ≡ end = omega (arith, w .before) in
-    rw (part-none s end) at (rw e at (w .same))
+    rw (between-none s end) at (rw e at (w .same))
 
 -- COMPARING KEYS
 
@@ -136,7 +136,7 @@ agrees-spelled {l} w t k = rw (w .size-is, w .number-is) (agrees-same l t (w .by
 pub spelled-part : (s : List ℕ) (start end : ℕ) → start ≤ end → end ≤ length s → ((i : ℕ) → Fits w8 (getD s i 0)) → (number : ℕ)
     → number ≡ key-of (between s start end) → Spelled (between s start end) (end - start) number
 spelled-part s start end h g f number e = record {
-  bytes = part-fits s start end f;
-  size-is = sym (part-length s start end h g);
+  bytes = fits-between s start end f;
+  size-is = sym (length-between s start end g);
   number-is = e;
 }

@@ -11,7 +11,7 @@ use Rattle.label.specs.Bytes.{quote, run, past}
 use Rattle.label.specs.Ranges.{between}
 use Rattle.label.specs.Symbols.{unquoted}
 use Rattle.symbols.specs.Views.{FirstQuote}
-use Rattle.symbols.proofs.Parts.{part-none, part-cons, part-join}
+use Rattle.symbols.proofs.Parts.{between-none, between-cons, between-join}
 
 -- no quote stands from start up to i
 pub record Passed (s : List ℕ) (start end i : ℕ) : Type 0 where
@@ -21,7 +21,7 @@ pub record Passed (s : List ℕ) (start end i : ℕ) : Type 0 where
   pub after : past unquoted (between s i end) ≡ past unquoted (between s start end)
 
 pub passed-none : (s : List ℕ) (start end : ℕ) → start ≤ end → Passed s start end start
-passed-none s start end h = record { from = omega arith; upto = h; before = rw (part-none s start); after = refl }
+passed-none s start end h = record { from = omega arith; upto = h; before = rw (between-none s start); after = refl }
 
 module _ {s : List ℕ} {start end i : ℕ} (l : end ≤ length s) (w : Passed s start end i) where
   module _ (h : i < end) where
@@ -29,13 +29,13 @@ module _ {s : List ℕ} {start end i : ℕ} (l : end ≤ length s) (w : Passed s
     unfolding run past
     passed-more n =
         let e : eqb (getD s i 0) quote ≡ false = ne-eqb (getD s i 0) quote n in
-        let x : between s start i ++ between s i (i + 1) ≡ between s start (i + 1) = part-join s start i (i + 1) (w .from) (omega arith) in
-        let y : between s i (i + 1) ≡ getD s i 0 ∷ [] = rw (part-cons s i (i + 1) (omega arith) (omega arith), part-none s (i + 1)) in
+        let x : between s start i ++ between s i (i + 1) ≡ between s start (i + 1) = between-join s start i (i + 1) (w .from) (omega arith) in
+        let y : between s i (i + 1) ≡ getD s i 0 ∷ [] = rw (between-cons s i (i + 1) (omega arith) (omega arith), between-none s (i + 1)) in
         record {
           from = omega (arith, w .from);
           upto = omega arith;
-          before = rw (← x, y, append-assoc) (rw (part-cons s i end h l, e) at (w .before));
-          after = rw (part-cons s i end h l, e) at (w .after);
+          before = rw (← x, y, append-assoc) (rw (between-cons s i end h l, e) at (w .before));
+          after = rw (between-cons s i end h l, e) at (w .after);
         }
 
     pub stopped : getD s i 0 ≡ quote → FirstQuote s start end i
@@ -45,8 +45,8 @@ module _ {s : List ℕ} {start end i : ℕ} (l : end ≤ length s) (w : Passed s
         record {
           from = w .from;
           upto = w .upto;
-          before = rw append-nil at (rw (part-cons s i end h l, e) at (w .before));
-          after = rw (part-cons s i end h l) (rw (part-cons s i end h l, e) at (w .after));
+          before = rw append-nil at (rw (between-cons s i end h l, e) at (w .before));
+          after = rw (between-cons s i end h l) (rw (between-cons s i end h l, e) at (w .after));
         }
 
   pub ended : end ≤ i → FirstQuote s start end i
@@ -56,6 +56,6 @@ module _ {s : List ℕ} {start end i : ℕ} (l : end ≤ length s) (w : Passed s
       record {
         from = w .from;
         upto = w .upto;
-        before = rw e (rw append-nil at (rw (part-none s end) at (rw e at (w .before))));
-        after = rw (e, part-none s end) (rw (part-none s end) at (rw e at (w .after)));
+        before = rw e (rw append-nil at (rw (between-none s end) at (rw e at (w .before))));
+        after = rw (e, between-none s end) (rw (between-none s end) at (rw e at (w .after)));
       }

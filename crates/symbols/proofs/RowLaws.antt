@@ -71,11 +71,6 @@ first-none p q f i (x ∷ xs) t g =
 
 -- PAST THE END
 
--- an element inside is the same whatever stands past the end, and an element outside is what stands there
-pub inside : {A : Type 0} (xs : List A) (i : ℕ) (d e : A) → i < length xs → getD xs i d ≡ getD xs i e
-inside [] i d e h = absurd (omega arith)
-inside (x ∷ xs) zero d e h = refl
-inside (x ∷ xs) (suc i) d e h = inside xs i d e (omega arith)
-
+-- an element outside is what is given past the end
 pub outside : {A : Type 0} (xs : List A) (i : ℕ) (d : A) → length xs ≤ i → d ≡ getD xs i d
 outside xs i d h = sym (List·getD-eq-default xs d h)

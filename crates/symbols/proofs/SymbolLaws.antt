@@ -18,7 +18,7 @@ use Rattle.symbols.specs.declared.Cut.{Cut as Cutting}
 use Rattle.symbols.specs.declared.Symbol.{Symbol as Coded}
 use Rattle.symbols.specs.Views.{place, symbol-in, behind, prefix-cut, unit-cut, Bounded, LettersAt, CutAt, FirstPrefixed, FirstQuote}
 use Rattle.symbols.proofs.CutLaws.{cut-list, two-then-one}
-use Rattle.symbols.proofs.Parts.{part-none, part-cons, part-length, part-take, part-drop}
+use Rattle.symbols.proofs.Parts.{between-none, between-cons, length-between, take-between, drop-between}
 
 -- PLACES
 
@@ -95,11 +95,11 @@ by-cut-is n l =
 module _ (k : ℕ) (s : List ℕ) (start end : ℕ) (h : start ≤ end) (g : end ≤ length s) where
   none-left : end - start ≤ k → prefix-cut k (between s start end) ≡ none
   unfolding prefix-cut
-  none-left f = rw (drop-of-length-le (between s start end) {i = k} (rw (part-length s start end h g) f))
+  none-left f = rw (drop-of-length-le (between s start end) {i = k} (rw (length-between s start end g) f))
 
   some-left : k < end - start → prefix-cut k (between s start end) ≡ prefix-named (between s start (start + k))
   unfolding prefix-cut
-  some-left f = rw (part-drop s start end k, part-cons s (start + k) end (omega arith) g, part-take s start end k (omega arith))
+  some-left f = rw (drop-between s start end k, between-cons s (start + k) end (omega arith) g, take-between s start end k (omega arith))
 
   -- a cut with no prefix
   no-cut : prefix-cut k (between s start end) ≡ none → CutAt k s start end (record { prefix = 0; rest = start })
@@ -136,7 +136,7 @@ unit-after-cut n {k} {s} {start} {end} {r} w u e = e ∙ go (leb (r .prefix) 0) 
     go : (x : Bool) → leb (r .prefix) 0 ≡ x
         → behind (place (r .prefix)) (unit-named n (between s (r .rest) end)) ≡ behind (prefix-cut k (between s start end)) (unit-named n (drop k (between s start end)))
     go true f = rw (← w .prefix-is, placed-none (r .prefix) (leb-true (r .prefix) 0 f))
-    go false f = rw (← w .prefix-is, part-drop s start end k, w .after (leb-false (r .prefix) 0 f))
+    go false f = rw (← w .prefix-is, drop-between s start end k, w .after (leb-false (r .prefix) 0 f))
 
 -- THE CHOICE
 
@@ -162,13 +162,13 @@ module _ (n : ℕ) {s : List ℕ} {start end : ℕ} {two : Cutting} (a : CutAt 2
       first-unknown : 0 < two .prefix
           → unknown (place (two .prefix)) (between s (two .rest) end) ≡ by-cut (between s start end) (known-cuts n (between s start end))
       unfolding chosen
-      first-unknown h = sym (chosen-is ∙ rw (placed-none v y, placed-at (two .prefix) h, part-drop s start end 2, a .after h))
+      first-unknown h = sym (chosen-is ∙ rw (placed-none v y, placed-at (two .prefix) h, drop-between s start end 2, a .after h))
 
       second-unknown : two .prefix ≤ 0 → 0 < one .prefix
           → unknown (place (one .prefix)) (between s (one .rest) end) ≡ by-cut (between s start end) (known-cuts n (between s start end))
       unfolding chosen
       second-unknown x h =
-          sym (chosen-is ∙ rw (placed-none v y, placed-none (two .prefix) x, placed-at (one .prefix) h, part-drop s start end 1, b .after h))
+          sym (chosen-is ∙ rw (placed-none v y, placed-none (two .prefix) x, placed-at (one .prefix) h, drop-between s start end 1, b .after h))
 
       neither : two .prefix ≤ 0 → one .prefix ≤ 0
           → unknown (place (one .prefix)) (between s (one .rest) end) ≡ by-cut (between s start end) (known-cuts n (between s start end))
@@ -202,27 +202,27 @@ module _ (n : ℕ) (l : List ℕ) (w : ℕ) (e : place w ≡ unit-named n l) whe
 module _ (n : ℕ) {s : List ℕ} {start end q : ℕ} (g : end ≤ length s) (w : FirstQuote s start end q) where
   pub with-quote : q < end → unknown (prefix-named (between s start q)) (run unquoted (between s (q + 1) end)) ≡ symbol n (between s start end)
   unfolding symbol by-quote
-  with-quote h = rw (← w .after, ← w .before, part-cons s q end h g)
+  with-quote h = rw (← w .after, ← w .before, between-cons s q end h g)
 
   pub without-quote : end ≤ q → by-whole n (between s start end) (unit-named n (between s start end)) ≡ symbol n (between s start end)
   unfolding symbol by-quote
   without-quote h =
       let e : q ≡ end = omega (arith, w .upto) in
-      rw (← w .after, e, part-none s end)
+      rw (← w .after, e, between-none s end)
 
 -- where the letters are
 module _ {s : List ℕ} {start end q : ℕ} (g : end ≤ length s) (w : FirstQuote s start end q) where
   pub letters-quoted : q < end → {first : ℕ} (last : ℕ) → first ≡ q + 1 → LettersAt s start end first last
   letters-quoted h last e = record {
-    quoted = λ c t z. let k = part-length s start q (w .from) (omega (arith, w .upto)) in rw (← w .before) (omega arith);
-    plain = λ z. let k : suc (length (between s (q + 1) end)) ≡ 0 = ap length (sym (part-cons s q end h g) ∙ w .after ∙ z) in absurd (omega arith);
+    quoted = λ c t z. let k = length-between s start q (omega (arith, w .upto)) in rw (← w .before) (omega arith);
+    plain = λ z. let k : suc (length (between s (q + 1) end)) ≡ 0 = ap length (sym (between-cons s q end h g) ∙ w .after ∙ z) in absurd (omega arith);
   }
 
   pub letters-plain : end ≤ q → (first : ℕ) {last : ℕ} → last ≡ end → LettersAt s start end first last
   letters-plain h first e = record {
     quoted = λ c t z.
         let i : q ≡ end = omega (arith, w .upto) in
-        let k : 0 ≡ suc (length t) = ap length (sym (part-none s end) ∙ rw i at (w .after) ∙ z) in
+        let k : 0 ≡ suc (length t) = ap length (sym (between-none s end) ∙ rw i at (w .after) ∙ z) in
         absurd (omega arith);
     plain = λ z. e;
   }

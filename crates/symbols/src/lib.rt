@@ -1,7 +1,7 @@
 // Spellings of units: constant tables of prefixes and known units, and the symbol that a spelling stands for.
+pub mod keys;
 pub mod lookup;
 pub mod properties;
-pub mod spelling;
 pub mod tables;
 
 // What a spelling stands for.

@@ -2,10 +2,10 @@
 use crate::Cut;
 use crate::Part;
 use crate::Symbol;
-use crate::spelling::first_quote;
-use crate::spelling::has_notation;
-use crate::spelling::key;
-use crate::spelling::same_symbol;
+use crate::keys::first_quote;
+use crate::keys::has_notation;
+use crate::keys::key;
+use crate::keys::same_symbol;
 ghost use mathlib.Core.Path.{_≡_};
 ghost use mathlib.Core.Bool.{false, _&&_};
 ghost use mathlib.Core.List.{List};

@@ -1,7 +1,7 @@
 // What the tables say of a symbol: whether it is lawful and recommended, its bases and its primes. Columns are lent.
 // A symbol's letters have no part in it, so each contract holds whatever the label `s` is.
 use crate::Symbol;
-use crate::spelling::has_notation;
+use crate::keys::has_notation;
 use label::Tens;
 ghost use mathlib.Core.Path.{_≡_};
 ghost use mathlib.Core.List.{List};

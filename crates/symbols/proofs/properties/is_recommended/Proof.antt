@@ -1,7 +1,8 @@
 use mathlib.Core.Path.{_∙_}
 use borrow.Author.Tests.{not-true, not-false}
 use mathlib.Core.Bool.{true, false}
-use Rattle.symbols.proofs.RowLaws.{inside, outside}
+use Rattle.label.proofs.Listing.{inside}
+use Rattle.symbols.proofs.RowLaws.{outside}
 use Rattle.symbols.proofs.PropertyLaws.{unrecommended, recommended-known}
 use borrow.Author.Needs.{needs}
 use Rattle.symbols.proofs.properties.is_recommended.Statement.{statement}

@@ -1,8 +1,8 @@
 use Prim.Native.Nat.{_-_}
 use native.Mathlib.Omega.{arith}
 use Rattle.symbols.proofs.KeyLaws.{Keyed, keyed-none, room, keyed-more, keyed-end}
-use Rattle.symbols.proofs.spelling.key.Statement.{statement}
-use Rattle.symbols.proofs.spelling.key.Tie as tie
+use Rattle.symbols.proofs.keys.key.Statement.{statement}
+use Rattle.symbols.proofs.keys.key.Tie as tie
 
 abbrev Inv-loop : tie.InvT-loop
 Inv-loop s start end number₀ i₀ number i = Keyed s start end number i

@@ -1,4 +1,4 @@
-// Spellings as bytes of a label: their keys, their comparison with a symbol of a table, their quotes.
+// Spellings as numbers: their keys, their comparison with a symbol of a table, sets of notations; and where a spelling has a quote.
 ghost use mathlib.Core.Path.{_≡_};
 ghost use Prim.Native.Nat.{_≤_, _-_};
 ghost use lib.ListN.{length};

@@ -1,7 +1,7 @@
--- `symbols::spelling::same_symbol` meets its contract: keys first, then sizes.
+-- `symbols::keys::same_symbol` meets its contract: keys first, then sizes.
 use borrow.Author.Tests.{eq-eqb, ne-eqb}
-use Rattle.symbols.proofs.spelling.same_symbol.Statement.{statement}
-use Rattle.symbols.proofs.spelling.same_symbol.Tie as tie
+use Rattle.symbols.proofs.keys.same_symbol.Statement.{statement}
+use Rattle.symbols.proofs.keys.same_symbol.Tie as tie
 
 returns : tie.Need-returns
 returns c = rw (eq-eqb _ _ (c .if1 .taken))

@@ -1,8 +1,8 @@
--- `symbols::spelling::has_notation` meets its contract: a number that is not from 1 to 8 has no bit.
+-- `symbols::keys::has_notation` meets its contract: a number that is not from 1 to 8 has no bit.
 use borrow.Author.Tests.{le-leb, lt-leb}
 use borrow.Author.Needs.{needs}
-use Rattle.symbols.proofs.spelling.has_notation.Statement.{statement}
-use Rattle.symbols.proofs.spelling.has_notation.Tie as tie
+use Rattle.symbols.proofs.keys.has_notation.Statement.{statement}
+use Rattle.symbols.proofs.keys.has_notation.Tie as tie
 
 returns : tie.Need-returns
 returns c = rw (lt-leb _ _ (c .if1 .taken))

@@ -22,13 +22,13 @@ difference a b = go (ltb a (suc b))
     go false = omega arith
 
 -- the size of a sum is at most the sum of the sizes
-abs-sum : (a b : ℤ) → natAbs (a +ℤ b) ≤ natAbs a + natAbs b
+pub abs-sum : (a b : ℤ) → natAbs (a +ℤ b) ≤ natAbs a + natAbs b
 abs-sum (pos a) (pos b) = omega arith
 abs-sum (pos a) (negsuc b) = difference a b
 abs-sum (negsuc a) (pos b) = omega (arith, difference b a)
 abs-sum (negsuc a) (negsuc b) = omega arith
 
-abs-neg : (n : ℕ) → natAbs (negℤ (pos n)) ≡ n
+pub abs-neg : (n : ℕ) → natAbs (negℤ (pos n)) ≡ n
 abs-neg zero = refl
 abs-neg (suc n) = refl
 
@@ -43,7 +43,7 @@ product-within : (a b : ℤ) {m n : ℕ} → natAbs a ≤ m → natAbs b ≤ n �
 product-within a b h g = rw (abs-product a b) (mul-le-mul h g)
 
 -- the size that the machine asks of a signed number
-mag-abs : (z : ℤ) → mag z ≤ natAbs z
+pub mag-abs : (z : ℤ) → mag z ≤ natAbs z
 mag-abs (pos n) = omega arith
 mag-abs (negsuc n) = omega arith
 

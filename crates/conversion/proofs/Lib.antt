@@ -1,0 +1,3 @@
+pub mod Raising
+pub mod Signs
+pub mod Fractions

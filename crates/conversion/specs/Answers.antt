@@ -1,18 +1,42 @@
 -- What the functions that convert answer.
-use Prim.Native.Nat.{ℕ, _<_, _^_}
+use Prim.Native.Nat.{ℕ, _≤_, _<_, _^_}
 use mathlib.Core.Path.{_≡_}
 use mathlib.Core.List.{List, [], _∷_, map}
 use lib.IntN.{ℤ, pos, natAbs}
 use lib.ListN.{length, getD}
 use Rattle.label.specs.declared.Exponent.{Exponent}
-use Rattle.label.specs.Reading.{exponent, reading}
+use Rattle.label.specs.Reading.{exponent, Reading, reading}
 use Rattle.label.specs.Conversion as spec
+use Rattle.reading.specs.declared.read.Answer.{Answer}
 use Rattle.conversion.specs.declared.answer.Conversion.{Conversion}
 use Rattle.conversion.specs.declared.fraction.Ratio.{Ratio}
 use Rattle.conversion.specs.Powers.{Held}
 
 abbrev pub conversion-in : Conversion → spec.Conversion
 conversion-in r = record { number = r .number; numerator = r .numerator; denominator = r .denominator; k = r .k }
+
+-- SUMS
+
+-- the exponents of the bases and of 2, 3, 5 and 487 in a reading
+pub record Sums (ds cs : List ℤ) (r : Reading) : Type 0 where
+  pub dimensions : map exponent ds ≡ r .dimensions
+  pub scale : map exponent cs ≡ r .scale
+
+-- four exponents, each small enough that a difference fits the machine
+pub record Limited (cs : List ℤ) : Type 0 where
+  pub room : length cs ≡ 4
+  pub small : (i : ℕ) → natAbs (getD cs i (pos 0)) < 2 ^ 28
+
+pub record Summed (ds cs : List ℤ) : Type 0 where
+  pub dimensions : length ds ≡ 32
+  pub scale : Limited cs
+
+-- the number, and where it is 0, the sums and whether all units are known
+pub record ReadSums (n : ℕ) (s : List ℕ) (ds cs : List ℤ) (r : Answer) : Type 0 where
+  pub number : r .number ≡ reading n s .number
+  pub known : r .number ≡ 0 → r .known ≡ reading n s .known
+  pub sums : r .number ≡ 0 → Sums ds cs (reading n s)
+  pub summed : r .number ≡ 0 → Summed ds cs
 
 -- SCALES
 

@@ -1,0 +1,185 @@
+-- The sums of two labels: what they are, how large they are, and their comparison.
+use Prim.Native.Nat.{ℕ, zero, suc, _+_, _≤_, _<_, _^_}
+use native.Mathlib.Omega.{arith}
+use native.Mathlib.Numerals.{add-one}
+use mathlib.Core.Path.{_≡_, refl, sym, ap, _∙_}
+use mathlib.Core.Bool.{true, false, _&&_}
+use mathlib.Core.List.{List, [], _∷_, map, List·Memᴰ·head, List·Memᴰ·tail}
+use lib.IntN.{ℤ, pos, negsuc, natAbs, _-ℤ_, pos-ne-negsuc}
+use lib.ListN.{length, getD, drop, drop-of-length-le}
+use lib.Seq.{drop-cons}
+use lib.Signed.{mag}
+use mir.Syntax.{w64}
+use mir.Val.{SFits, toZ, ofZ}
+use mir.Facts.{toZ-ofZ}
+use borrow.Author.Tests.{eq-eqb, ne-eqb}
+use Rattle.label.specs.declared.Exponent.{Exponent}
+use Rattle.label.specs.Reading.{exponent, Reading, scale-of, reading}
+use Rattle.label.specs.Conversion.{same-whole, same-exponents, over}
+use Rattle.label.proofs.Refusals.{bounds}
+use Rattle.label.proofs.Readings.{Answered, answer-of, number-refused}
+use Rattle.claims.specs.Converting.{prime-exponent}
+use Rattle.claims.proofs.Bounds.{exponents-bounded}
+use Rattle.claims.proofs.Conversions.{Shaped, accepted-shaped}
+use Rattle.descent.specs.Terms.{Lent}
+use Rattle.content.proofs.Integers.{wide-fits}
+use Rattle.reading.specs.declared.read.Answer.{Answer}
+use Rattle.reading.specs.Views.{reading-in}
+use Rattle.reading.specs.Answers.{Reads}
+use Rattle.reading.proofs.Answering.{dimensions-room, scale-room}
+use Rattle.conversion.specs.declared.fraction.Ratio.{Ratio}
+use Rattle.conversion.specs.Answers.{Sums, Limited, Summed, ReadSums, ratio-in, Small}
+
+-- WHAT THE SUMS OF A READING ARE
+
+-- four numbers are those at the places 0 to 3
+four : (xs : List ℤ) → length xs ≡ 4 → xs ≡ getD xs 0 (pos 0) ∷ getD xs 1 (pos 0) ∷ getD xs 2 (pos 0) ∷ getD xs 3 (pos 0) ∷ []
+four [] e = absurd (omega arith)
+four (a ∷ []) e = absurd (omega arith)
+four (a ∷ b ∷ []) e = absurd (omega arith)
+four (a ∷ b ∷ c ∷ []) e = absurd (omega arith)
+four (a ∷ b ∷ c ∷ d ∷ []) e = refl
+four (a ∷ b ∷ c ∷ d ∷ f ∷ xs) e = absurd (omega arith)
+
+accepted-parts : (n : ℕ) (s : List ℕ) → reading n s .number ≡ 0 → Shaped (reading n s)
+accepted-parts n s e = go (answer-of n s)
+  where
+    go : Answered n s → Shaped (reading n s)
+    go (Answered.refusing i c d) = let h = bounds (d .holds) .0 in absurd (omega (arith, number-refused n s i h .1 d))
+    go (Answered.accepting v a) = accepted-shaped a
+
+-- the exponents of the primes, one by one
+scale-at : (r : Reading) (xs : List ℤ) → Shaped r → map exponent xs ≡ r .scale → length xs ≡ 4
+    → (getD xs 0 (pos 0) ≡ prime-exponent 2 r) × (getD xs 1 (pos 0) ≡ prime-exponent 3 r) × (getD xs 2 (pos 0) ≡ prime-exponent 5 r) × (getD xs 3 (pos 0) ≡ prime-exponent 487 r)
+unfolding scale-of
+scale-at r xs w e l =
+    let q : map exponent (getD xs 0 (pos 0) ∷ getD xs 1 (pos 0) ∷ getD xs 2 (pos 0) ∷ getD xs 3 (pos 0) ∷ []) ≡ scale-of (r .k) (r .terms) = ap (map exponent) (sym (four xs l)) ∙ e ∙ w .is-scale in
+    let at : ℕ → List Exponent → ℤ = λ i xs. getD xs i (exponent (pos 0)) .0 in
+    (ap (at 0) q, ap (at 1) q, ap (at 2) q, ap (at 3) q)
+
+limited-by : (xs : List ℤ) → length xs ≡ 4 → natAbs (getD xs 0 (pos 0)) < 2 ^ 28 → natAbs (getD xs 1 (pos 0)) < 2 ^ 28 → natAbs (getD xs 2 (pos 0)) < 2 ^ 28
+    → natAbs (getD xs 3 (pos 0)) < 2 ^ 28 → (i : ℕ) → natAbs (getD xs i (pos 0)) < 2 ^ 28
+limited-by xs l a b c d i = rw (four xs l) (go i)
+  where
+    go : (i : ℕ) → natAbs (getD (getD xs 0 (pos 0) ∷ getD xs 1 (pos 0) ∷ getD xs 2 (pos 0) ∷ getD xs 3 (pos 0) ∷ []) i (pos 0)) < 2 ^ 28
+    go zero = a
+    go (suc zero) = b
+    go (suc (suc zero)) = c
+    go (suc (suc (suc zero))) = d
+    go (suc (suc (suc (suc i)))) = omega arith
+
+module _ {n : ℕ} {s : List ℕ} {t : Lent} {x : List ℕ} {ds cs : List ℤ} {r : Answer} (w : Reads n s t x ds cs r) where
+  sums-read : r .number ≡ 0 → Sums ds cs (reading n s)
+  unfolding reading-in
+  sums-read e = record { dimensions = ap (λ (y : Reading). y .dimensions) (w .is e); scale = ap (λ (y : Reading). y .scale) (w .is e) }
+
+  limited-read : r .number ≡ 0 → Limited cs
+  limited-read e =
+      let p = accepted-parts n s (sym (w .number) ∙ e) in
+      let l = scale-room w e in
+      let q = scale-at (reading n s) cs p (sums-read e .scale) l in
+      let b = exponents-bounded n s .1 in
+      record {
+        room = l;
+        small =
+            limited-by cs l
+            (rw (q .0) (omega (arith, b 2 (List·Memᴰ·head refl))))
+            (rw (q .1) (omega (arith, b 3 (List·Memᴰ·tail (List·Memᴰ·head refl)))))
+            (rw (q .2) (omega (arith, b 5 (List·Memᴰ·tail (List·Memᴰ·tail (List·Memᴰ·head refl))))))
+            (rw (q .3) (omega (arith, b 487 (List·Memᴰ·tail (List·Memᴰ·tail (List·Memᴰ·tail (List·Memᴰ·head refl)))))));
+      }
+
+  pub read-summed : ReadSums n s ds cs r
+  unfolding reading-in
+  read-summed = record {
+    number = w .number;
+    known = λ e. ap (λ (y : Reading). y .known) (w .is e);
+    sums = sums-read;
+    summed = λ e. record { dimensions = dimensions-room w e; scale = limited-read e };
+  }
+
+-- BASES COMPARED
+
+same-itself : (x : ℤ) → same-whole x x ≡ true
+same-itself (pos n) = eq-eqb n n refl
+same-itself (negsuc n) = eq-eqb n n refl
+
+not-same : (x y : ℤ) → (x ≡ y → ⊥) → same-whole x y ≡ false
+not-same (pos m) (pos n) h = ne-eqb m n (λ e. h (ap pos e))
+not-same (pos m) (negsuc n) h = refl
+not-same (negsuc m) (pos n) h = refl
+not-same (negsuc m) (negsuc n) h = ne-eqb m n (λ e. h (ap negsuc e))
+
+-- the places from i on decide
+pub record Comparing (xs ys : List ℤ) (i : ℕ) : Type 0 where
+  pub within : i ≤ 32
+  pub rest : same-exponents (map exponent (drop i xs)) (map exponent (drop i ys)) ≡ same-exponents (map exponent xs) (map exponent ys)
+
+pub comparing₀ : (xs ys : List ℤ) → Comparing xs ys 0
+comparing₀ xs ys = record { within = omega arith; rest = refl }
+
+module _ (xs ys : List ℤ) (i : ℕ) (w : Comparing xs ys i) (l : length xs ≡ 32) (m : length ys ≡ 32) where
+  abbrev after : Type 0
+  after = same-exponents (map exponent xs) (map exponent ys) ≡ (same-whole (getD xs i (pos 0)) (getD ys i (pos 0)) && same-exponents (map exponent (drop (i + 1) xs)) (map exponent (drop (i + 1) ys)))
+
+  next : i < 32 → after
+  unfolding same-exponents
+  next h = sym (w .rest) ∙ rw (add-one i, drop-cons xs i (pos 0) (omega (arith, l)), drop-cons ys i (pos 0) (omega (arith, m)))
+
+  pub comparing-done : 32 ≤ i → true ≡ same-exponents (map exponent xs) (map exponent ys)
+  unfolding same-exponents
+  comparing-done h =
+      let a : length xs ≤ i = omega (arith, l) in
+      let b : length ys ≤ i = omega (arith, m) in
+      rw (drop-of-length-le xs a, drop-of-length-le ys b) at (w .rest)
+
+  module _ (h : i < 32) (f : mag (getD xs i (pos 0)) < 2 ^ 63) (g : mag (getD ys i (pos 0)) < 2 ^ 63) where
+    pub comparing-differs : (ofZ w64 (getD xs i (pos 0)) ≡ ofZ w64 (getD ys i (pos 0)) → ⊥) → false ≡ same-exponents (map exponent xs) (map exponent ys)
+    comparing-differs e = sym (next h ∙ rw (not-same (getD xs i (pos 0)) (getD ys i (pos 0)) (λ q. e (ap (ofZ w64) q))))
+
+    pub comparing-more : ofZ w64 (getD xs i (pos 0)) ≡ ofZ w64 (getD ys i (pos 0)) → Comparing xs ys (i + 1)
+    comparing-more e =
+        let u : SFits w64 (getD xs i (pos 0)) = record { sfits = f } in
+        let v : SFits w64 (getD ys i (pos 0)) = record { sfits = g } in
+        let q : getD xs i (pos 0) ≡ getD ys i (pos 0) = sym (toZ-ofZ u) ∙ ap (toZ w64) e ∙ toZ-ofZ v in
+        let t : same-whole (getD xs i (pos 0)) (getD ys i (pos 0)) ≡ true = rw q (same-itself (getD ys i (pos 0))) in
+        record { within = omega arith; rest = sym (next h ∙ rw t) }
+
+-- FIRST OVER SECOND
+
+module _ {xs ys : List ℤ} (w : Limited xs) (v : Limited ys) (i : ℕ) where
+  first-bits : toZ w64 (ofZ w64 (getD xs i (pos 0))) ≡ getD xs i (pos 0)
+  first-bits = toZ-ofZ (wide-fits (omega (arith, w .small i)))
+
+  second-bits : toZ w64 (ofZ w64 (getD ys i (pos 0))) ≡ getD ys i (pos 0)
+  second-bits = toZ-ofZ (wide-fits (omega (arith, v .small i)))
+
+  pub difference-room : natAbs (toZ w64 (ofZ w64 (getD xs i (pos 0)))) + natAbs (toZ w64 (ofZ w64 (getD ys i (pos 0)))) < 2 ^ 63
+  difference-room = rw (first-bits, second-bits) (omega (arith, w .small i, v .small i))
+
+  pub record Difference (z : ℤ) : Type 0 where
+    pub is : toZ w64 (ofZ w64 z) ≡ getD xs i (pos 0) -ℤ getD ys i (pos 0)
+    pub small : natAbs (toZ w64 (ofZ w64 z)) < 2 ^ 30
+
+  pub difference-told : {z : ℤ} → (z ≡ toZ w64 (ofZ w64 (getD xs i (pos 0))) -ℤ toZ w64 (ofZ w64 (getD ys i (pos 0))))
+      × (natAbs z ≤ natAbs (toZ w64 (ofZ w64 (getD xs i (pos 0)))) + natAbs (toZ w64 (ofZ w64 (getD ys i (pos 0))))) → Difference z
+  difference-told {z} e =
+      let l : natAbs z < 2 ^ 30 = omega (arith, e .1, ap natAbs first-bits, ap natAbs second-bits, w .small i, v .small i) in
+      let q : toZ w64 (ofZ w64 z) ≡ z = toZ-ofZ (wide-fits (omega arith)) in
+      record { is = q ∙ e .0 ∙ rw (first-bits, second-bits); small = rw q l }
+
+module _ {xs ys : List ℤ} (w : Limited xs) (v : Limited ys) where
+  over-is : over (map exponent xs) (map exponent ys) ≡
+      exponent (getD xs 0 (pos 0) -ℤ getD ys 0 (pos 0)) ∷ exponent (getD xs 1 (pos 0) -ℤ getD ys 1 (pos 0))
+      ∷ exponent (getD xs 2 (pos 0) -ℤ getD ys 2 (pos 0)) ∷ exponent (getD xs 3 (pos 0) -ℤ getD ys 3 (pos 0)) ∷ []
+  unfolding over
+  over-is = λ i. over (map exponent (four xs (w .room) i)) (map exponent (four ys (v .room) i))
+
+  pub ratio-told : {a b c d : ℤ} → Difference w v 0 a → Difference w v 1 b → Difference w v 2 c → Difference w v 3 d
+      → (ratio-in (record { twos = toZ w64 (ofZ w64 a); threes = toZ w64 (ofZ w64 b); fives = toZ w64 (ofZ w64 c); others = toZ w64 (ofZ w64 d) })
+      ≡ over (map exponent xs) (map exponent ys))
+      × Small (record { twos = toZ w64 (ofZ w64 a); threes = toZ w64 (ofZ w64 b); fives = toZ w64 (ofZ w64 c); others = toZ w64 (ofZ w64 d) })
+  ratio-told p q r s = (
+    rw (p .is, q .is, r .is, s .is) (sym over-is),
+    record { twos = p .small; threes = q .small; fives = r .small; others = s .small },
+  )

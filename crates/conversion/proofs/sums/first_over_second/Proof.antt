@@ -1,0 +1,33 @@
+-- `conversion::sums::first_over_second` meets its contract: the four differences fit the machine.
+use borrow.Author.Needs.{needs}
+use Rattle.conversion.proofs.Summing.{difference-room, difference-told, ratio-told}
+use Rattle.conversion.proofs.sums.first_over_second.Statement.{statement}
+use Rattle.conversion.proofs.sums.first_over_second.Tie as tie
+
+pub first-over-second-spec : {M : Type 1} → statement M
+first-over-second-spec =
+    tie.close
+    (tie.spec
+    (λ c. search needs)
+    (λ c. search needs)
+    (λ c κs. let start = c .before .before in difference-room (start .pre .0) (start .pre .1) 0)
+    (λ c. search needs)
+    (λ c. search needs)
+    (λ c κs. let start = c .before .before .before .before .before in difference-room (start .pre .0) (start .pre .1) 1)
+    (λ c. search needs)
+    (λ c. search needs)
+    (λ c κs. let start = c .before .before .before .before .before .before .before .before in difference-room (start .pre .0) (start .pre .1) 2)
+    (λ c. search needs)
+    (λ c. search needs)
+    (λ c κs.
+    let start = c .before .before .before .before .before .before .before .before .before .before .before in
+    difference-room (start .pre .0) (start .pre .1) 3)
+    (λ c.
+    let third = c .before .before .before in
+    let second = third .before .before .before in
+    let first = second .before .before .before in
+    let start = first .before .before .before in
+    let w = start .pre .0 in
+    let v = start .pre .1 in
+    ratio-told w v (difference-told w v 0 (first .difference .ensures)) (difference-told w v 1 (second .difference2 .ensures))
+    (difference-told w v 2 (third .difference3 .ensures)) (difference-told w v 3 (c .difference4 .ensures))))

@@ -14,6 +14,7 @@ use Rattle.label.specs.Reading.{exponent, Reading, reading}
 use Rattle.label.specs.Conversion.{refuse, unless, both-known, same-exponents, over, all-whole, fraction-of, small, bounded, converted, conversion}
 use Rattle.label.specs.Conversion as spec
 use Rattle.label.proofs.Basics.{and-left, and-right}
+use Rattle.content.specs.Views.{scale-in}
 use Rattle.conversion.specs.declared.answer.Conversion.{Conversion}
 use Rattle.conversion.specs.declared.fraction.Ratio.{Ratio}
 use Rattle.conversion.specs.Powers.{Held}
@@ -53,7 +54,7 @@ bounded-is {y} {x} w = go (small (conversion-in x)) refl ∙ ap (λ (b : Bool). 
 
 pub converted-is : (ratio : Ratio) (x : Conversion) {ds es cs fs : List ℤ} {a b : Reading} {known same whole tiny : Bool} {z₁ z₂ z₃ z₄ : spec.Conversion}
     → known ≡ both-known a b → Sums ds cs a → Sums es fs b → same ≡ same-exponents (map exponent ds) (map exponent es)
-    → ratio-in ratio ≡ over (map exponent cs) (map exponent fs) → whole ≡ all-whole (ratio-in ratio) → Nearly (fraction-of (ratio-in ratio)) x
+    → ratio-in ratio ≡ over (scale-in cs) (scale-in fs) → whole ≡ all-whole (ratio-in ratio) → Nearly (fraction-of (ratio-in ratio)) x
     → tiny ≡ small (conversion-in x) → z₁ ≡ unless tiny 11 (conversion-in x) → z₂ ≡ unless whole 10 z₁ → z₃ ≡ unless same 9 z₂ → z₄ ≡ unless known 8 z₃
     → z₄ ≡ converted a b
 unfolding converted

@@ -25,18 +25,25 @@ bits z h = toZ-ofZ (wide-fits (omega arith))
 
 -- ALL FOUR WHOLE
 
-and-true : (b : Bool) → b ≡ (b && true)
-and-true true = refl
-and-true false = refl
-
 module _ (r : Ratio) (h : Small r) {a b c d v w x : Bool} where
   pub all-whole-is : a ≡ eqb (natAbs (toZ w64 (ofZ w64 (r .twos))) % 60) 0 → b ≡ eqb (natAbs (toZ w64 (ofZ w64 (r .threes))) % 60) 0
       → c ≡ eqb (natAbs (toZ w64 (ofZ w64 (r .fives))) % 60) 0 → d ≡ eqb (natAbs (toZ w64 (ofZ w64 (r .others))) % 60) 0
       → v ≡ (c && d) → w ≡ (b && v) → x ≡ (a && w) → x ≡ all-whole (ratio-in r)
   unfolding all-whole
   all-whole-is e f g i j k l =
-      l ∙ rw (k, j, e, f, g, i, bits (r .twos) (omega (arith, h .twos)), bits (r .threes) (omega (arith, h .threes)), bits (r .fives) (omega (arith, h .fives)), bits (r .others) (omega (arith, h .others)))
-      (ap (λ (y : Bool). eqb (natAbs (r .twos) % 60) 0 && (eqb (natAbs (r .threes) % 60) 0 && (eqb (natAbs (r .fives) % 60) 0 && y))) (and-true (eqb (natAbs (r .others) % 60) 0)))
+      l
+      ∙ rw (
+        k,
+        j,
+        e,
+        f,
+        g,
+        i,
+        bits (r .twos) (omega (arith, h .twos)),
+        bits (r .threes) (omega (arith, h .threes)),
+        bits (r .fives) (omega (arith, h .fives)),
+        bits (r .others) (omega (arith, h .others)),
+      )
 
 -- ONES
 

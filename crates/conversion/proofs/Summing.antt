@@ -4,7 +4,7 @@ use native.Mathlib.Omega.{arith}
 use native.Mathlib.Numerals.{add-one}
 use mathlib.Core.Path.{_≡_, refl, sym, ap, _∙_}
 use mathlib.Core.Bool.{true, false, _&&_}
-use mathlib.Core.List.{List, [], _∷_, map, List·Memᴰ·head, List·Memᴰ·tail}
+use mathlib.Core.List.{List, map, List·Memᴰ, List·Memᴰ·head, List·Memᴰ·tail}
 use lib.IntN.{ℤ, pos, negsuc, natAbs, _-ℤ_, pos-ne-negsuc}
 use lib.ListN.{length, getD, drop, drop-of-length-le}
 use lib.Seq.{drop-cons}
@@ -13,8 +13,7 @@ use mir.Syntax.{w64}
 use mir.Val.{SFits, toZ, ofZ}
 use mir.Facts.{toZ-ofZ}
 use borrow.Author.Tests.{eq-eqb, ne-eqb}
-use Rattle.label.specs.declared.Exponent.{Exponent}
-use Rattle.label.specs.Reading.{exponent, Reading, scale-of, reading}
+use Rattle.label.specs.Reading.{exponent, Scale, Reading, primes, scale-of, reading}
 use Rattle.label.specs.Conversion.{same-whole, same-exponents, over}
 use Rattle.label.proofs.Refusals.{bounds}
 use Rattle.label.proofs.Readings.{Answered, answer-of, number-refused}
@@ -22,24 +21,16 @@ use Rattle.claims.specs.Converting.{prime-exponent}
 use Rattle.claims.proofs.Bounds.{exponents-bounded}
 use Rattle.claims.proofs.Conversions.{Shaped, accepted-shaped}
 use Rattle.descent.specs.Terms.{Lent}
+use Rattle.content.specs.Views.{scale-in}
 use Rattle.content.proofs.Integers.{wide-fits}
 use Rattle.reading.specs.declared.read.Answer.{Answer}
 use Rattle.reading.specs.Views.{reading-in}
 use Rattle.reading.specs.Answers.{Reads}
-use Rattle.reading.proofs.Answering.{dimensions-room, scale-room}
+use Rattle.reading.proofs.Answering.{dimensions-room}
 use Rattle.conversion.specs.declared.fraction.Ratio.{Ratio}
 use Rattle.conversion.specs.Answers.{Sums, Limited, Summed, ReadSums, ratio-in, Small}
 
 -- WHAT THE SUMS OF A READING ARE
-
--- four numbers are those at the places 0 to 3
-four : (xs : List ℤ) → length xs ≡ 4 → xs ≡ getD xs 0 (pos 0) ∷ getD xs 1 (pos 0) ∷ getD xs 2 (pos 0) ∷ getD xs 3 (pos 0) ∷ []
-four [] e = absurd (omega arith)
-four (a ∷ []) e = absurd (omega arith)
-four (a ∷ b ∷ []) e = absurd (omega arith)
-four (a ∷ b ∷ c ∷ []) e = absurd (omega arith)
-four (a ∷ b ∷ c ∷ d ∷ []) e = refl
-four (a ∷ b ∷ c ∷ d ∷ f ∷ xs) e = absurd (omega arith)
 
 accepted-parts : (n : ℕ) (s : List ℕ) → reading n s .number ≡ 0 → Shaped (reading n s)
 accepted-parts n s e = go (answer-of n s)
@@ -48,25 +39,20 @@ accepted-parts n s e = go (answer-of n s)
     go (Answered.refusing i c d) = let h = bounds (d .holds) .0 in absurd (omega (arith, number-refused n s i h .1 d))
     go (Answered.accepting v a) = accepted-shaped a
 
--- the exponents of the primes, one by one
-scale-at : (r : Reading) (xs : List ℤ) → Shaped r → map exponent xs ≡ r .scale → length xs ≡ 4
-    → (getD xs 0 (pos 0) ≡ prime-exponent 2 r) × (getD xs 1 (pos 0) ≡ prime-exponent 3 r) × (getD xs 2 (pos 0) ≡ prime-exponent 5 r) × (getD xs 3 (pos 0) ≡ prime-exponent 487 r)
+limited-by : (r : Reading) (xs : List ℤ) → scale-in xs ≡ r .scale → Shaped r → ((p : ℕ) → List·Memᴰ p primes → natAbs (prime-exponent p r) < 2 ^ 28)
+    → (i : ℕ) → i < 4 → natAbs (getD xs i (pos 0)) < 2 ^ 28
 unfolding scale-of
-scale-at r xs w e l =
-    let q : map exponent (getD xs 0 (pos 0) ∷ getD xs 1 (pos 0) ∷ getD xs 2 (pos 0) ∷ getD xs 3 (pos 0) ∷ []) ≡ scale-of (r .k) (r .terms) = ap (map exponent) (sym (four xs l)) ∙ e ∙ w .is-scale in
-    let at : ℕ → List Exponent → ℤ = λ i xs. getD xs i (exponent (pos 0)) .0 in
-    (ap (at 0) q, ap (at 1) q, ap (at 2) q, ap (at 3) q)
-
-limited-by : (xs : List ℤ) → length xs ≡ 4 → natAbs (getD xs 0 (pos 0)) < 2 ^ 28 → natAbs (getD xs 1 (pos 0)) < 2 ^ 28 → natAbs (getD xs 2 (pos 0)) < 2 ^ 28
-    → natAbs (getD xs 3 (pos 0)) < 2 ^ 28 → (i : ℕ) → natAbs (getD xs i (pos 0)) < 2 ^ 28
-limited-by xs l a b c d i = rw (four xs l) (go i)
+limited-by r xs e w h = go
   where
-    go : (i : ℕ) → natAbs (getD (getD xs 0 (pos 0) ∷ getD xs 1 (pos 0) ∷ getD xs 2 (pos 0) ∷ getD xs 3 (pos 0) ∷ []) i (pos 0)) < 2 ^ 28
-    go zero = a
-    go (suc zero) = b
-    go (suc (suc zero)) = c
-    go (suc (suc (suc zero))) = d
-    go (suc (suc (suc (suc i)))) = omega arith
+    q : scale-in xs ≡ scale-of (r .k) (r .terms)
+    q = e ∙ w .is-scale
+
+    go : (i : ℕ) → i < 4 → natAbs (getD xs i (pos 0)) < 2 ^ 28
+    go zero l = rw (ap (λ (c : Scale). c .of-2 .0) q) (h 2 (List·Memᴰ·head refl))
+    go (suc zero) l = rw (ap (λ (c : Scale). c .of-3 .0) q) (h 3 (List·Memᴰ·tail (List·Memᴰ·head refl)))
+    go (suc (suc zero)) l = rw (ap (λ (c : Scale). c .of-5 .0) q) (h 5 (List·Memᴰ·tail (List·Memᴰ·tail (List·Memᴰ·head refl))))
+    go (suc (suc (suc zero))) l = rw (ap (λ (c : Scale). c .of-487 .0) q) (h 487 (List·Memᴰ·tail (List·Memᴰ·tail (List·Memᴰ·tail (List·Memᴰ·head refl)))))
+    go (suc (suc (suc (suc i)))) l = absurd (omega arith)
 
 module _ {n : ℕ} {s : List ℕ} {t : Lent} {x : List ℕ} {ds cs : List ℤ} {r : Answer} (w : Reads n s t x ds cs r) where
   sums-read : r .number ≡ 0 → Sums ds cs (reading n s)
@@ -74,20 +60,9 @@ module _ {n : ℕ} {s : List ℕ} {t : Lent} {x : List ℕ} {ds cs : List ℤ} {
   sums-read e = record { dimensions = ap (λ (y : Reading). y .dimensions) (w .is e); scale = ap (λ (y : Reading). y .scale) (w .is e) }
 
   limited-read : r .number ≡ 0 → Limited cs
-  limited-read e =
-      let p = accepted-parts n s (sym (w .number) ∙ e) in
-      let l = scale-room w e in
-      let q = scale-at (reading n s) cs p (sums-read e .scale) l in
-      let b = exponents-bounded n s .1 in
-      record {
-        room = l;
-        small =
-            limited-by cs l
-            (rw (q .0) (omega (arith, b 2 (List·Memᴰ·head refl))))
-            (rw (q .1) (omega (arith, b 3 (List·Memᴰ·tail (List·Memᴰ·head refl)))))
-            (rw (q .2) (omega (arith, b 5 (List·Memᴰ·tail (List·Memᴰ·tail (List·Memᴰ·head refl))))))
-            (rw (q .3) (omega (arith, b 487 (List·Memᴰ·tail (List·Memᴰ·tail (List·Memᴰ·tail (List·Memᴰ·head refl)))))));
-      }
+  limited-read e = record {
+    small = limited-by (reading n s) cs (sums-read e .scale) (accepted-parts n s (sym (w .number) ∙ e)) (λ p m. omega (arith, exponents-bounded n s .1 p m));
+  }
 
   pub read-summed : ReadSums n s ds cs r
   unfolding reading-in
@@ -147,15 +122,15 @@ module _ (xs ys : List ℤ) (i : ℕ) (w : Comparing xs ys i) (l : length xs ≡
 
 -- FIRST OVER SECOND
 
-module _ {xs ys : List ℤ} (w : Limited xs) (v : Limited ys) (i : ℕ) where
+module _ {xs ys : List ℤ} (w : Limited xs) (v : Limited ys) (i : ℕ) (h : i < 4) where
   first-bits : toZ w64 (ofZ w64 (getD xs i (pos 0))) ≡ getD xs i (pos 0)
-  first-bits = toZ-ofZ (wide-fits (omega (arith, w .small i)))
+  first-bits = toZ-ofZ (wide-fits (omega (arith, w .small i h)))
 
   second-bits : toZ w64 (ofZ w64 (getD ys i (pos 0))) ≡ getD ys i (pos 0)
-  second-bits = toZ-ofZ (wide-fits (omega (arith, v .small i)))
+  second-bits = toZ-ofZ (wide-fits (omega (arith, v .small i h)))
 
   pub difference-room : natAbs (toZ w64 (ofZ w64 (getD xs i (pos 0)))) + natAbs (toZ w64 (ofZ w64 (getD ys i (pos 0)))) < 2 ^ 63
-  difference-room = rw (first-bits, second-bits) (omega (arith, w .small i, v .small i))
+  difference-room = rw (first-bits, second-bits) (omega (arith, w .small i h, v .small i h))
 
   pub record Difference (z : ℤ) : Type 0 where
     pub is : toZ w64 (ofZ w64 z) ≡ getD xs i (pos 0) -ℤ getD ys i (pos 0)
@@ -164,22 +139,16 @@ module _ {xs ys : List ℤ} (w : Limited xs) (v : Limited ys) (i : ℕ) where
   pub difference-told : {z : ℤ} → (z ≡ toZ w64 (ofZ w64 (getD xs i (pos 0))) -ℤ toZ w64 (ofZ w64 (getD ys i (pos 0))))
       × (natAbs z ≤ natAbs (toZ w64 (ofZ w64 (getD xs i (pos 0)))) + natAbs (toZ w64 (ofZ w64 (getD ys i (pos 0))))) → Difference z
   difference-told {z} e =
-      let l : natAbs z < 2 ^ 30 = omega (arith, e .1, ap natAbs first-bits, ap natAbs second-bits, w .small i, v .small i) in
+      let l : natAbs z < 2 ^ 30 = omega (arith, e .1, ap natAbs first-bits, ap natAbs second-bits, w .small i h, v .small i h) in
       let q : toZ w64 (ofZ w64 z) ≡ z = toZ-ofZ (wide-fits (omega arith)) in
       record { is = q ∙ e .0 ∙ rw (first-bits, second-bits); small = rw q l }
 
-module _ {xs ys : List ℤ} (w : Limited xs) (v : Limited ys) where
-  over-is : over (map exponent xs) (map exponent ys) ≡
-      exponent (getD xs 0 (pos 0) -ℤ getD ys 0 (pos 0)) ∷ exponent (getD xs 1 (pos 0) -ℤ getD ys 1 (pos 0))
-      ∷ exponent (getD xs 2 (pos 0) -ℤ getD ys 2 (pos 0)) ∷ exponent (getD xs 3 (pos 0) -ℤ getD ys 3 (pos 0)) ∷ []
-  unfolding over
-  over-is = λ i. over (map exponent (four xs (w .room) i)) (map exponent (four ys (v .room) i))
-
-  pub ratio-told : {a b c d : ℤ} → Difference w v 0 a → Difference w v 1 b → Difference w v 2 c → Difference w v 3 d
-      → (ratio-in (record { twos = toZ w64 (ofZ w64 a); threes = toZ w64 (ofZ w64 b); fives = toZ w64 (ofZ w64 c); others = toZ w64 (ofZ w64 d) })
-      ≡ over (map exponent xs) (map exponent ys))
-      × Small (record { twos = toZ w64 (ofZ w64 a); threes = toZ w64 (ofZ w64 b); fives = toZ w64 (ofZ w64 c); others = toZ w64 (ofZ w64 d) })
-  ratio-told p q r s = (
-    rw (p .is, q .is, r .is, s .is) (sym over-is),
-    record { twos = p .small; threes = q .small; fives = r .small; others = s .small },
-  )
+pub ratio-told : {xs ys : List ℤ} (w : Limited xs) (v : Limited ys) {a b c d : ℤ} (h₀ : 0 < 4) (h₁ : 1 < 4) (h₂ : 2 < 4) (h₃ : 3 < 4)
+    → Difference w v 0 h₀ a → Difference w v 1 h₁ b → Difference w v 2 h₂ c → Difference w v 3 h₃ d
+    → (ratio-in (record { twos = toZ w64 (ofZ w64 a); threes = toZ w64 (ofZ w64 b); fives = toZ w64 (ofZ w64 c); others = toZ w64 (ofZ w64 d) }) ≡ over (scale-in xs) (scale-in ys))
+    × Small (record { twos = toZ w64 (ofZ w64 a); threes = toZ w64 (ofZ w64 b); fives = toZ w64 (ofZ w64 c); others = toZ w64 (ofZ w64 d) })
+unfolding over
+ratio-told w v h₀ h₁ h₂ h₃ p q r s = (
+  λ i. record { of-2 = exponent (p .is i); of-3 = exponent (q .is i); of-5 = exponent (r .is i); of-487 = exponent (s .is i) },
+  record { twos = p .small; threes = q .small; fives = r .small; others = s .small },
+)

@@ -1,12 +1,12 @@
 -- What the functions that convert answer.
 use Prim.Native.Nat.{ℕ, _≤_, _<_, _^_}
 use mathlib.Core.Path.{_≡_}
-use mathlib.Core.List.{List, [], _∷_, map}
+use mathlib.Core.List.{List, map}
 use lib.IntN.{ℤ, pos, natAbs}
 use lib.ListN.{length, getD}
-use Rattle.label.specs.declared.Exponent.{Exponent}
-use Rattle.label.specs.Reading.{exponent, Reading, reading}
+use Rattle.label.specs.Reading.{exponent, Scale, Reading, reading}
 use Rattle.label.specs.Conversion as spec
+use Rattle.content.specs.Views.{scale-in}
 use Rattle.reading.specs.declared.read.Answer.{Answer}
 use Rattle.conversion.specs.declared.answer.Conversion.{Conversion}
 use Rattle.conversion.specs.declared.fraction.Ratio.{Ratio}
@@ -20,12 +20,11 @@ conversion-in r = record { number = r .number; numerator = r .numerator; denomin
 -- the exponents of the bases and of 2, 3, 5 and 487 in a reading
 pub record Sums (ds cs : List ℤ) (r : Reading) : Type 0 where
   pub dimensions : map exponent ds ≡ r .dimensions
-  pub scale : map exponent cs ≡ r .scale
+  pub scale : scale-in cs ≡ r .scale
 
 -- four exponents, each small enough that a difference fits the machine
 pub record Limited (cs : List ℤ) : Type 0 where
-  pub room : length cs ≡ 4
-  pub small : (i : ℕ) → natAbs (getD cs i (pos 0)) < 2 ^ 28
+  pub small : (i : ℕ) → i < 4 → natAbs (getD cs i (pos 0)) < 2 ^ 28
 
 pub record Summed (ds cs : List ℤ) : Type 0 where
   pub dimensions : length ds ≡ 32
@@ -40,9 +39,9 @@ pub record ReadSums (n : ℕ) (s : List ℕ) (ds cs : List ℤ) (r : Answer) : T
 
 -- SCALES
 
--- the exponents of 2, 3, 5 and 487 in first over second
-abbrev pub ratio-in : Ratio → List Exponent
-ratio-in r = exponent (r .twos) ∷ exponent (r .threes) ∷ exponent (r .fives) ∷ exponent (r .others) ∷ []
+-- the scale of first over second
+abbrev pub ratio-in : Ratio → Scale
+ratio-in r = record { of-2 = exponent (r .twos); of-3 = exponent (r .threes); of-5 = exponent (r .fives); of-487 = exponent (r .others) }
 
 -- exponents of a size that no sum of theirs leaves the machine's numbers
 pub record Small (r : Ratio) : Type 0 where

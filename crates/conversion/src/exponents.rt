@@ -1,10 +1,9 @@
 // Exponents with a sign: their sizes, differences, and the ones in their sixtieths.
 ghost use mathlib.Core.Path.{_≡_};
 ghost use Prim.Native.Nat.{_+_, _%_, _<_, _≤_, _^_};
-ghost use lib.Dec.{eqb};
 ghost use lib.IntN.{natAbs, _-ℤ_};
 ghost use Rattle.label.specs.Reading.{exponent};
-ghost use Rattle.label.specs.Conversion.{whole};
+ghost use Rattle.label.specs.Conversion.{is-whole, whole};
 ghost use Rattle.conversion.specs.Powers as spec;
 
 // How large `z` is, up or down.
@@ -46,7 +45,7 @@ pub fn difference(a: i64, b: i64) -> i64
 
 // Whether so many sixtieths are ones.
 pub fn is_whole(z: i64) -> bool
-    ensures { λ r. ⌜ r ≡ eqb (natAbs z % 60) 0 ⌝ }
+    ensures { λ r. ⌜ r ≡ is-whole (exponent z) ⌝ }
 {
     size(z) % 60 == 0
 }

@@ -9,6 +9,7 @@ ghost use lib.ListN.{length};
 ghost use Rattle.label.specs.Reading.{exponent};
 ghost use Rattle.label.specs.Conversion.{over, same-exponents};
 ghost use Rattle.content.specs.Sums.{zeros};
+ghost use Rattle.content.specs.Views.{scale-in};
 ghost use Rattle.conversion.specs.Answers.{Limited, ReadSums, ratio-in, Small};
 
 // What reading the text `s` in notation `n` answers. Where it is no refusal, the exponent of each base and the exponents of 2, 3, 5 and 487
@@ -41,7 +42,7 @@ pub fn same_bases(first: &[i64; 32], second: &[i64; 32]) -> bool
 // The exponents of 2, 3, 5 and 487 in first over second.
 pub fn first_over_second(first: &[i64; 4], second: &[i64; 4]) -> Ratio
     requires { ⌜ Limited (now first) × Limited (now second) ⌝ }
-    ensures { λ r. ⌜ (ratio-in r ≡ over (map exponent (now (first .entry))) (map exponent (now (second .entry)))) × Small r ⌝ }
+    ensures { λ r. ⌜ (ratio-in r ≡ over (scale-in (now (first .entry))) (scale-in (now (second .entry)))) × Small r ⌝ }
 {
     Ratio {
         twos: difference(first[0], second[0]),

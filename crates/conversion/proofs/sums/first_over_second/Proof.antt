@@ -1,4 +1,6 @@
 -- `conversion::sums::first_over_second` meets its contract: the four differences fit the machine.
+use Prim.Native.Nat.{_<_}
+use native.Mathlib.Omega.{arith}
 use borrow.Author.Needs.{needs}
 use Rattle.conversion.proofs.Summing.{difference-room, difference-told, ratio-told}
 use Rattle.conversion.proofs.sums.first_over_second.Statement.{statement}
@@ -10,18 +12,18 @@ first-over-second-spec =
     (tie.spec
     (λ c. search needs)
     (λ c. search needs)
-    (λ c κs. let start = c .before .before in difference-room (start .pre .0) (start .pre .1) 0)
+    (λ c κs. let start = c .before .before in difference-room (start .pre .0) (start .pre .1) 0 (omega arith))
     (λ c. search needs)
     (λ c. search needs)
-    (λ c κs. let start = c .before .before .before .before .before in difference-room (start .pre .0) (start .pre .1) 1)
+    (λ c κs. let start = c .before .before .before .before .before in difference-room (start .pre .0) (start .pre .1) 1 (omega arith))
     (λ c. search needs)
     (λ c. search needs)
-    (λ c κs. let start = c .before .before .before .before .before .before .before .before in difference-room (start .pre .0) (start .pre .1) 2)
+    (λ c κs. let start = c .before .before .before .before .before .before .before .before in difference-room (start .pre .0) (start .pre .1) 2 (omega arith))
     (λ c. search needs)
     (λ c. search needs)
     (λ c κs.
     let start = c .before .before .before .before .before .before .before .before .before .before .before in
-    difference-room (start .pre .0) (start .pre .1) 3)
+    difference-room (start .pre .0) (start .pre .1) 3 (omega arith))
     (λ c.
     let third = c .before .before .before in
     let second = third .before .before .before in
@@ -29,5 +31,9 @@ first-over-second-spec =
     let start = first .before .before .before in
     let w = start .pre .0 in
     let v = start .pre .1 in
-    ratio-told w v (difference-told w v 0 (first .difference .ensures)) (difference-told w v 1 (second .difference2 .ensures))
-    (difference-told w v 2 (third .difference3 .ensures)) (difference-told w v 3 (c .difference4 .ensures))))
+    let h₀ : 0 < 4 = omega arith in
+    let h₁ : 1 < 4 = omega arith in
+    let h₂ : 2 < 4 = omega arith in
+    let h₃ : 3 < 4 = omega arith in
+    ratio-told w v h₀ h₁ h₂ h₃ (difference-told w v 0 h₀ (first .difference .ensures)) (difference-told w v 1 h₁ (second .difference2 .ensures))
+    (difference-told w v 2 h₂ (third .difference3 .ensures)) (difference-told w v 3 h₃ (c .difference4 .ensures))))

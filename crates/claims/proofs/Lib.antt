@@ -6,6 +6,7 @@ pub mod Exactness
 pub mod WholeLaws
 pub mod Conversions
 pub mod ConversionAnswers
+pub mod ConversionLimits
 pub mod Inverses
 pub mod Bounds
 pub mod Scales

@@ -131,6 +131,17 @@ BackByTheInverse =
     → conversion n s m t ≡ gives x y k
     → conversion m t n s ≡ gives y x (negℤ k)
 
+-- THE LIMITS
+
+pub record Limits (x : Conversion) : Type 0 where
+  pub numerator : x .numerator ≤ 2 ^ 53
+  pub denominator : x .denominator ≤ 2 ^ 53
+  pub k : natAbs (x .k .0) ≤ 9_999
+
+-- Every answer keeps the limits, a refusal too.
+abbrev pub WithinLimits : Type 0
+WithinLimits = (n : ℕ) (s : List ℕ) (m : ℕ) (t : List ℕ) → Limits (conversion n s m t)
+
 -- HOW LARGE EXPONENTS ARE
 
 -- 32 terms, each to at most 99 (5,940 sixtieths). A unit's size has each base to at most 9; a prime to at most 28, and its prefix to at most 24;

@@ -1,4 +1,6 @@
 // What a C program calls.
+pub mod convert;
+
 use reading::read::read;
 use record::buffer::write_record;
 ghost use mathlib.Core.Path.{_≡_};

@@ -1,92 +1,59 @@
+-- `face::convert::write_conversion` meets its contract: a buffer shorter than the record, and any other.
+use native.Mathlib.Omega.{arith}
+use mathlib.Core.Path.{sym}
+use mir.Syntax.{w32}
+use mir.Val.{SFits}
 use borrow.Author.Needs.{needs}
+use Rattle.content.proofs.Integers.{widened}
+use Rattle.record.proofs.Lending.{front-length}
+use Rattle.face.proofs.ConversionBytes.{short-buffer, long-buffer}
 use Rattle.face.proofs.convert.write_conversion.Statement.{statement}
 use Rattle.face.proofs.convert.write_conversion.Tie as tie
-use Rattle.face.proofs.convert.write_conversion.Reads as reads
-use Rattle.face.proofs.convert.write_conversion.Lts as lts
-use Rattle.bytes.proofs.copy.Reads as copy-reads
-use Rattle.record.proofs.numbers.put_all.Reads as put-all-reads
 
--- src/convert.rt:22:9
-cast-t7 : tie.Need-cast-t7
-cast-t7 c = search needs
+tens-fit : (c : tie.After-struct-told) → SFits w32 (c .before .before .before .before .before .before .before .args .x .k .0)
+tens-fit c = record { sfits = omega arith }
 
--- src/convert.rt:23:9
-cast-t8 : tie.Need-cast-t8
-cast-t8 c = search needs
-
--- src/convert.rt:24:9
-cast-t9 : tie.Need-cast-t9
-cast-t9 c = search needs
-
--- src/convert.rt:25:9
-cast-t10 : tie.Need-cast-t10
-cast-t10 c = ?
-
--- src/convert.rt:28:13
-slice-aggregate-put-all : tie.Need-slice-aggregate-put-all
-slice-aggregate-put-all c = search needs
-
--- src/convert.rt:28:28
-slice-aggregate-put-all-2 : tie.Need-slice-aggregate-put-all-2
-slice-aggregate-put-all-2 c = search needs
-
--- src/convert.rt:28:5
-put-all-requires : tie.Need-put-all-requires
-put-all-requires c κs = search needs
-
--- src/convert.rt:31:21
-array-share-prefix-whole : tie.Need-array-share-prefix-whole
-array-share-prefix-whole c = search needs
-
--- src/convert.rt:31:21
-slice-aggregate-copy : tie.Need-slice-aggregate-copy
-slice-aggregate-copy c = ?
-
--- src/convert.rt:31:9
-copy-requires : tie.Need-copy-requires
-copy-requires c κs = ?
-
--- src/convert.rt:32:9
-same-length : tie.Need-same-length
-same-length c = search needs
-
--- src/convert.rt:32:9
 returns : tie.Need-returns
-returns c = ?
+returns c =
+    let copied = c .before .before in
+    let test = copied .before .before .before in
+    let put = test .before .before in
+    let told = put .before .before .before in
+    let start = told .before .before .before .before .before .before .before in
+    short-buffer (start .args .x) (omega arith) (start .pre) (tens-fit told) (put .put-all .last .0) (put .put-all .kept .0) (put .put-all .ensures) (start .args .buffer .now) (test .if1 .taken) (copied .copy .ensures .1)
 
--- src/convert.rt:34:17
-slice-aggregate-copy-2 : tie.Need-slice-aggregate-copy-2
-slice-aggregate-copy-2 c = search needs
-
--- src/convert.rt:34:5
-copy-requires-2 : tie.Need-copy-requires-2
-copy-requires-2 c κs = search needs
-
--- src/convert.rt:16:1
-same-length-2 : tie.Need-same-length-2
-same-length-2 c = search needs
-
--- src/convert.rt:16:1
 returns-2 : tie.Need-returns-2
-returns-2 c = ?
+returns-2 c =
+    let copied = c .before .before in
+    let test = copied .before .before .before in
+    let put = test .before .before in
+    let told = put .before .before .before in
+    let start = told .before .before .before .before .before .before .before in
+    long-buffer (start .args .x) (omega arith) (start .pre) (tens-fit told) (put .put-all .last .0) (put .put-all .kept .0) (put .put-all .ensures) (start .args .buffer .now) (test .if1 .left) (copied .copy2 .ensures .1)
 
 pub write-conversion-spec : {M : Type 1} → statement M
 write-conversion-spec =
     tie.close
     (tie.spec
-    cast-t7
-    cast-t8
-    cast-t9
-    cast-t10
-    slice-aggregate-put-all
-    slice-aggregate-put-all-2
-    put-all-requires
-    array-share-prefix-whole
-    slice-aggregate-copy
-    copy-requires
-    same-length
+    (λ c. search needs)
+    (λ c. search needs)
+    (λ c. search needs)
+    (λ c. widened (tens-fit c))
+    (λ c. search needs)
+    (λ c. search needs)
+    (λ c κs. search needs)
+    (λ c. search needs)
+    (λ c.
+    let put = c .before .before .before in
+    let start = put .before .before .before .before .before .before .before .before .before .before in
+    sym (front-length (put .put-all .last .0) (start .args .buffer .now) (omega (arith, put .put-all .kept .0))))
+    (λ c κs.
+    let put = c .before .before .before .before in
+    let start = put .before .before .before .before .before .before .before .before .before .before in
+    omega (arith, front-length (put .put-all .last .0) (start .args .buffer .now) (omega (arith, put .put-all .kept .0))))
+    (λ c. search needs)
     returns
-    slice-aggregate-copy-2
-    copy-requires-2
-    same-length-2
+    (λ c. search needs)
+    (λ c κs. search needs)
+    (λ c. search needs)
     returns-2)

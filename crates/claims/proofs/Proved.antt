@@ -16,9 +16,10 @@ use Rattle.claims.proofs.Conversions.{factor-once}
 use Rattle.claims.proofs.ConversionAnswers.{gives-converts, number-due, due-refused, zero-undue}
 use Rattle.claims.proofs.Inverses.{converts-itself, converts-inverse}
 use Rattle.claims.proofs.Bounds as bounds
+use Rattle.claims.proofs.ConversionLimits as limits
 use Rattle.claims.proofs.Sizings as sizings
 use Rattle.claims.specs.Sizing.{SizesGiveTheFactor, FractionExactlyIf}
-use Rattle.claims.specs.Converting.{OneFactor, ConvertsExactlyIf, ConversionRefusals, RefusedConversions, ConversionSucceeds, ItselfByOne, BackByTheInverse, ExponentsBounded, RatiosBounded}
+use Rattle.claims.specs.Converting.{OneFactor, ConvertsExactlyIf, ConversionRefusals, RefusedConversions, ConversionSucceeds, ItselfByOne, BackByTheInverse, WithinLimits, ExponentsBounded, RatiosBounded}
 
 pub parse-is-the-grammar : ParseIsTheGrammar
 parse-is-the-grammar n s f ps = ((λ h. parsed-derived n s f ps h), (λ d. derived-parsed d))
@@ -121,6 +122,9 @@ itself-by-one n s c u = converts-itself n s c u
 
 pub back-by-the-inverse : BackByTheInverse
 back-by-the-inverse n s m t x y k e = converts-inverse n s m t x y k e
+
+pub within-limits : WithinLimits
+within-limits n s m t = limits.within-limits n s m t
 
 pub exponents-bounded : ExponentsBounded
 exponents-bounded n s = bounds.exponents-bounded n s

@@ -12,18 +12,18 @@ first-over-second-spec =
     (tie.spec
     (λ c. search needs)
     (λ c. search needs)
-    (λ c κs. let start = c .before .before in difference-room (start .pre .0) (start .pre .1) 0 (omega arith))
+    (λ c κs. let start = c .before .before in omega (arith, difference-room (start .pre .0) (start .pre .1) 0 (omega arith)))
     (λ c. search needs)
     (λ c. search needs)
-    (λ c κs. let start = c .before .before .before .before .before in difference-room (start .pre .0) (start .pre .1) 1 (omega arith))
+    (λ c κs. let start = c .before .before .before .before .before in omega (arith, difference-room (start .pre .0) (start .pre .1) 1 (omega arith)))
     (λ c. search needs)
     (λ c. search needs)
-    (λ c κs. let start = c .before .before .before .before .before .before .before .before in difference-room (start .pre .0) (start .pre .1) 2 (omega arith))
+    (λ c κs. let start = c .before .before .before .before .before .before .before .before in omega (arith, difference-room (start .pre .0) (start .pre .1) 2 (omega arith)))
     (λ c. search needs)
     (λ c. search needs)
     (λ c κs.
     let start = c .before .before .before .before .before .before .before .before .before .before .before in
-    difference-room (start .pre .0) (start .pre .1) 3 (omega arith))
+    omega (arith, difference-room (start .pre .0) (start .pre .1) 3 (omega arith)))
     (λ c.
     let third = c .before .before .before in
     let second = third .before .before .before in

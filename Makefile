@@ -10,7 +10,7 @@ SANITIZERS = -g -fsanitize=address,undefined -fno-sanitize-recover=all
 LIBRARY = build/libthalinguze.a
 HEADERS = include/thalinguze.h $(wildcard c/*.h)
 PARTS = $(patsubst c/%.c,build/%.o,$(wildcard c/*.c))
-TESTS = $(addprefix build/tests/,limits header advice stack guard guard-plain print_labels)
+TESTS = $(addprefix build/tests/,limits header advice stack guard guard-plain print_labels convert)
 
 all: $(LIBRARY) build/thalinguze
 
@@ -26,6 +26,7 @@ test: all $(TESTS)
 	@tests/read.sh
 	@tests/readme.sh
 	@tests/independent.sh
+	@tests/convert.sh
 	@tests/stack.sh
 	@tests/guard.sh
 
@@ -58,7 +59,7 @@ build/tests/%: tests/%.c tests/labels.h tests/painted.h tests/reader.h $(HEADERS
 	$(CC) $(CFLAGS) -o $@ $(filter %.c,$^) $(LIBRARY)
 
 build/tests/stack: CFLAGS += -pthread
-build/tests/guard build/tests/advice: CFLAGS += $(SANITIZERS)
+build/tests/guard build/tests/advice build/tests/convert: CFLAGS += $(SANITIZERS)
 build/tests/advice: c/advice.c c/loose.c c/loose_numbers.c c/meant.c
 
 build/tests/guard-plain: tests/guard.c tests/labels.h $(HEADERS) $(LIBRARY)

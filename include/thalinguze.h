@@ -45,7 +45,7 @@ enum {
     THALINGUZE_VOUNITS = 4
 };
 
-/* What thalinguze_read returns: 0, or the first of these that applies. */
+/* What the calls return: 0, or the first of these that applies. Reading gives 1 to 7, converting 1 to 11. */
 enum {
     THALINGUZE_ACCEPTED = 0,
     THALINGUZE_NO_SUCH_NOTATION = 1,  /* the notation number is not 1 to 4 */
@@ -54,7 +54,11 @@ enum {
     THALINGUZE_NOT_IN_GRAMMAR = 4,    /* the label is not in the notation's grammar */
     THALINGUZE_NUMBER_OUT_OF_BOUNDS = 5, /* a run of digits, an exponent or the factor breaks its bound */
     THALINGUZE_TOO_DEEP = 6,          /* more than THALINGUZE_MAX_DEPTH brackets are open at once */
-    THALINGUZE_TOO_MANY_TERMS = 7     /* more than THALINGUZE_MAX_TERMS terms */
+    THALINGUZE_TOO_MANY_TERMS = 7,    /* more than THALINGUZE_MAX_TERMS terms */
+    THALINGUZE_UNKNOWN_UNIT = 8,      /* converting: a unit of either label is not known */
+    THALINGUZE_DIMENSIONS_DIFFER = 9, /* converting: the labels have different dimensions */
+    THALINGUZE_NO_FRACTION = 10,      /* converting: the factor is not a fraction */
+    THALINGUZE_FACTOR_OUT_OF_BOUNDS = 11 /* converting: the numerator, the denominator or k breaks its bound */
 };
 
 /* Limits of an accepted label. */
@@ -365,6 +369,65 @@ static inline int64_t thalinguze_dimension(const uint8_t *record, unsigned base)
 static inline int64_t thalinguze_scale(const uint8_t *record, unsigned prime)
 {
     return thalinguze_field(record, THALINGUZE_FIELD_SCALE + prime);
+}
+
+/* CONVERTING */
+
+/* The record of a conversion has four fields: the number 0, numerator, denominator, and the power of ten k. */
+#define THALINGUZE_CONVERSION_FIELDS 4
+#define THALINGUZE_CONVERSION_SIZE (THALINGUZE_CONVERSION_FIELDS * THALINGUZE_FIELD_SIZE)
+enum {
+    THALINGUZE_CONVERSION_NUMBER = 0,
+    THALINGUZE_CONVERSION_NUMERATOR = 1,
+    THALINGUZE_CONVERSION_DENOMINATOR = 2,
+    THALINGUZE_CONVERSION_K = 3
+};
+
+/* Limits of an accepted conversion. */
+#define THALINGUZE_MAX_NUMERATOR 9007199254740992 /* 2 to the 53, also of a denominator: a double holds it exactly */
+#define THALINGUZE_MAX_CONVERSION_K 9999          /* size of k */
+
+/*
+ * Converts from a first label to a second: a number in the first unit times the factor is the number in the second.
+ *
+ *     const char *from = "km/h", *to = "m/s";
+ *     uint8_t record[THALINGUZE_CONVERSION_SIZE];
+ *     if (thalinguze_convert(THALINGUZE_CDS, (const uint8_t *)from, strlen(from), THALINGUZE_CDS, (const uint8_t *)to, strlen(to),
+ *                            record, sizeof record) == THALINGUZE_ACCEPTED)
+ *         printf("%lld/%lld, k = %d\n", (long long)thalinguze_numerator(record), (long long)thalinguze_denominator(record),
+ *                thalinguze_conversion_k(record));
+ *
+ * prints 1/36, k = 1: the factor is 1/36 times ten to the 1. The fraction is in lowest terms and neither number is divisible by 5, so
+ * there is only one.
+ *
+ * first, second            the notation of each label, as for thalinguze_read.
+ * first_label, first_size  the bytes of the first label; second_label, second_size those of the second. The two may overlap.
+ * record, record_size      where the record is written; THALINGUZE_CONVERSION_SIZE bytes hold it.
+ *
+ * Returns 0, or the number of the first refusal that applies: 1 to 7 of the first label, 1 to 7 of the second, then 8 to 11. The answer
+ * depends on the notations and the labels' bytes alone. What is said of the record's buffer at thalinguze_read holds here too.
+ */
+uint32_t thalinguze_convert(uint32_t first, const uint8_t *first_label, size_t first_size, uint32_t second, const uint8_t *second_label,
+                            size_t second_size, uint8_t *record, size_t record_size);
+
+/* What follows takes fields out of a record that an accepted conversion wrote whole. */
+
+/* The factor's numerator, 1 to THALINGUZE_MAX_NUMERATOR. */
+static inline int64_t thalinguze_numerator(const uint8_t *record)
+{
+    return thalinguze_field(record, THALINGUZE_CONVERSION_NUMERATOR);
+}
+
+/* The factor's denominator, 1 to THALINGUZE_MAX_NUMERATOR. */
+static inline int64_t thalinguze_denominator(const uint8_t *record)
+{
+    return thalinguze_field(record, THALINGUZE_CONVERSION_DENOMINATOR);
+}
+
+/* The power of ten that the fraction is multiplied by, -THALINGUZE_MAX_CONVERSION_K to THALINGUZE_MAX_CONVERSION_K. */
+static inline int thalinguze_conversion_k(const uint8_t *record)
+{
+    return (int)thalinguze_field(record, THALINGUZE_CONVERSION_K);
 }
 
 #ifdef __cplusplus

@@ -1,5 +1,5 @@
 # make: the library and the command, in build/. make run: what kg/m.s means in each notation; NOTATION=cds LABEL='km/h' for another.
-# make test: every program of tests/. make compare COUNT=100000: random labels against the second reading of tests/independent.py.
+# make test: every program of tests/. make compare COUNT=100000: random cases against the second implementation, tests/independent.py.
 # make bench: how long reading takes and how much stack, beside other readers; see docs/PERFORMANCE.md. make clean: removes build/.
 NOTATION = fits ogip cds vou
 export LABEL = kg/m.s
@@ -25,12 +25,14 @@ test: all $(TESTS)
 	@build/tests/advice
 	@tests/read.sh
 	@tests/readme.sh
+	@tests/second.sh
 	@tests/independent.sh
 	@tests/convert.sh
 	@tests/stack.sh
 	@tests/guard.sh
 
 compare: all build/tests/print_labels
+	@tests/second.sh $(COUNT) 1 all
 	@tests/independent.sh $(COUNT)
 
 bench: $(LIBRARY)

@@ -15,7 +15,7 @@ usage: independent.py [read]            reads lines NOTATION HEX, and prints eac
 HEX is a label's bytes in hexadecimal, `-` if there are none. SIZE is the lent buffer's length."""
 import sys
 
-from second import cases, lines, reading, writing, converting
+from second import convert_cases, converting, line_cases, lines, reading, rewrite_cases, writing
 from second.symbols import spellings
 
 
@@ -33,6 +33,7 @@ def print_rewritings():
     for line in sys.stdin:
         source, label, target, size = line.split()
         number, result = writing.rewrite(int(source), bytes_of(label), int(target), int(size))
+        assert number or writing.reads_back(int(source), bytes_of(label), int(target), result), line
         print(source, label, target, size, number, len(result), result.hex() or '-')
 
 
@@ -53,8 +54,11 @@ def print_symbols():
             print(notation, data.hex(), reading.shown(notation, data))
 
 
+CASES = {'rewrite': rewrite_cases, 'convert': convert_cases, 'lines': line_cases}
+
+
 def print_cases(kind, seed, count, everything=''):
-    sys.stdout.buffer.write(cases.KINDS[kind](int(seed), int(count), everything == 'all'))
+    sys.stdout.buffer.write(CASES[kind].text(int(seed), int(count), everything == 'all'))
 
 
 def numbers(rewritten, converted, answered):
@@ -70,7 +74,7 @@ def print_met(*files):
     met = [0] * 16
     for number in numbers(*files):
         met[number] += 1
-    print('answers met: ' + ', '.join('%d of %d' % (times, number) for number, times in enumerate(met)))
+    print('answers with each number: ' + ', '.join('%d: %d' % pair for pair in enumerate(met)))
     return 0 if all(met) else 1
 
 

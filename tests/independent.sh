@@ -1,18 +1,23 @@
 #!/bin/sh
-# Reads COUNT random labels with the command and with the second reading of independent.py, which knows nothing of it, and compares.
-# vectors/symbols.tsv must be what the second reading says of its labels.
+# Answers of the library against those of the second implementation in independent.py, which knows nothing of it: COUNT random labels that
+# are read, and the cases that second.sh leaves in build/tests/second.
 set -eu
 count=${1:-5000}
-out=build/tests/independent
+out=build/tests/second
 mkdir -p "$out"
-if ! command -v python3 >/dev/null; then
-    echo 'the second reading needs python3, which is not installed'
-    exit 1
-fi
-python3 tests/independent.py symbols | cmp - vectors/symbols.tsv || { echo 'vectors/symbols.tsv is not what independent.py symbols prints'; exit 1; }
-{ cut -d' ' -f1,2 vectors/readings.tsv; build/tests/print_labels "$count"; } >"$out/labels"
-build/thalinguze read --vectors <"$out/labels" >"$out/command"
-python3 tests/independent.py <"$out/labels" >"$out/second"
-cmp "$out/command" "$out/second" || { diff "$out/command" "$out/second" | head -n 10; exit 1; }
-accepted=$(cut -d' ' -f3 "$out/command" | grep -cx 0)
-echo "$(wc -l <"$out/labels") labels are read alike by the command and by the second reading, $accepted of them accepted"
+
+# compare KIND COMMAND...: what the command prints for the cases of that kind
+compare() {
+    kind=$1
+    shift
+    "$@" <"$out/$kind.cases" >"$out/$kind.command"
+    if ! cmp "$out/$kind.command" "$out/$kind.second"; then
+        diff -a "$out/$kind.command" "$out/$kind.second" | head -n 10
+        exit 1
+    fi
+    echo "$kind: $(wc -l <"$out/$kind.second") answers of the library are those of the second implementation"
+}
+
+{ cut -d' ' -f1,2 vectors/readings.tsv; build/tests/print_labels "$count"; } >"$out/read.cases"
+python3 tests/independent.py read <"$out/read.cases" >"$out/read.second"
+compare read build/thalinguze read --vectors

@@ -152,26 +152,55 @@ ACTIONS = {f.__name__: f for f in (unsigned, signed, places, decimal, ratio, pla
 
 # THE RECOGNISER
 
+END = ''
+
 
 def characters(token):
     return {chr(i) for a, b in re.findall('(.)-(.)', token.rstrip('*+')[1:-1]) for i in range(ord(a), ord(b) + 1)}
 
 
+def parsed(source):
+    rules = {}
+    for line in source.strip().splitlines():
+        if line.strip():
+            name, right = line.split('=', 1)
+            alternatives = [[]]
+            for token in re.findall(r'"[^"]*"|\[[^\]]*\][*+]?|[a-z]+|\|', right):
+                if token == '|':
+                    alternatives.append([])
+                else:
+                    alternatives[-1].append(token)
+            assert name.strip() not in rules
+            rules[name.strip()] = alternatives
+    return rules
+
+
 class Grammar:
     def __init__(self, source):
-        self.rules = {}
-        for line in source.strip().splitlines():
-            if line.strip():
-                name, right = line.split('=', 1)
-                alternatives = [[]]
-                for token in re.findall(r'"[^"]*"|\[[^\]]*\][*+]?|[a-z]+|\|', right):
-                    if token == '|':
-                        alternatives.append([])
-                    else:
-                        alternatives[-1].append(token)
-                assert name.strip() not in self.rules
-                self.rules[name.strip()] = alternatives
+        self.rules = parsed(source)
         self.classes = {t: characters(t) for a in self.rules.values() for seq in a for t in seq if t[0] == '['}
+        self.first = {name: set() for name in self.rules}
+        while any([self.add_first(name) for name in self.rules]):
+            pass
+        self.firsts = {name: [(self.first_of(tokens), tokens) for tokens in self.rules[name]] for name in self.rules}
+
+    def first_of(self, tokens):
+        """The characters that can come first where the tokens are matched; with END, that can also be anything."""
+        found = set()
+        for token in tokens:
+            if token[0] == '"':
+                return found | {token[1]}
+            first = self.first[token] if token[0] != '[' else self.classes[token] | ({END} if token[-1] == '*' else set())
+            found |= first - {END}
+            if END not in first:
+                return found
+        return found | {END}
+
+    def add_first(self, name):
+        """Whether the rule has more first characters than were known."""
+        known = len(self.first[name])
+        self.first[name].update(*map(self.first_of, self.rules[name]))
+        return len(self.first[name]) > known
 
     def meanings(self, text):
         """All meanings of the text, limits not counted."""
@@ -195,8 +224,10 @@ class Grammar:
 
     def rule(self, name, at):
         if (name, at) not in self.memo:
-            action, found = ACTIONS.get(name), {}
-            for alternative in self.rules[name]:
+            action, found, follows = ACTIONS.get(name), {}, self.text[at:at + 1]
+            for first, alternative in self.firsts[name]:
+                if follows not in first and END not in first:
+                    continue
                 ways = [(at, ())]
                 for token in alternative:
                     ways = [(end, parts + more) for start, parts in ways for end, more in self.token(token, start)]

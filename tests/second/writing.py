@@ -80,3 +80,13 @@ def rewrite(source, data, target, size):
     if size < len(result):
         return 14, b''
     return 0, result
+
+
+def content(reading):
+    """What a label and its rewriting have in common: k, and each term's prefix, unit and exponent."""
+    return reading.k, [(term.prefix, term.known, unit(term) if term.known else term.name, term.exponent) for term in reading.terms]
+
+
+def reads_back(source, data, target, result):
+    """Whether the result is accepted in the target with the same content."""
+    return read(target, result).number == 0 and content(read(target, result)) == content(read(source, data))

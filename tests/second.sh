@@ -31,4 +31,14 @@ second cases lines "$seed" "$count" >"$out/lines.cases"
 for kind in rewrite convert lines; do
     second "$kind" <"$out/$kind.cases" >"$out/$kind.second"
 done
+
+# with a newline after the last line, and without any line
+{ cat "$out/lines.cases"; echo; } >"$out/lines-ended.cases"
+: >"$out/lines-none.cases"
+for kind in lines-ended lines-none; do
+    second lines <"$out/$kind.cases" >"$out/$kind.second"
+done
+cmp "$out/lines-ended.second" "$out/lines.second"
+[ ! -s "$out/lines-none.second" ] || { echo 'there are answers to no lines'; exit 1; }
+
 second met "$out/rewrite.second" "$out/convert.second" "$out/lines.second" || { echo 'a refusal number is never met'; exit 1; }

@@ -3,9 +3,10 @@ from random import Random
 
 from .labels import label
 from .lines import LARGEST_LINE, NOTATIONS
-from .rewrite_cases import of_length
+from .rewrite_cases import of_length, special
 
 NAMES = sorted(NOTATIONS)
+NAME_OF = {number: name for name, number in NOTATIONS.items()}
 WRONG_NAMES = [b'', b'FITS', b'Cds', b'vounits', b'fits ', b' fits', b'cds\r', b'vou\0', b'fit', b'1', b'ogip\xff', b'fitsfits']
 IDENTIFIERS = [b'', b'x', b't1', b'an id with spaces', b'\r', b'\0', b'\xc3\xa9', b'15', b'"quoted"', b'x' * 200]
 
@@ -47,6 +48,11 @@ def lengths():
     return found
 
 
+def labels():
+    """The labels that document 01 or its decisions name, into every notation."""
+    return [line(b's', NAME_OF[source], data, NAME_OF[target]) for source, data, target, _ in special()]
+
+
 def results():
     """Results of 254 to 257 bytes in every pair of notations."""
     return [line(b'r', source, of_length(NOTATIONS[source], NOTATIONS[target], length), target)
@@ -63,8 +69,8 @@ def random_line(random):
 
 
 def text(seed, count, everything):
-    """An odd seed leaves out the last newline."""
+    """The last line has no newline."""
     random = Random(seed)
-    found = [b'', b'\r'] + tabs() + names() + bytes_inside() + lengths() + results() + [b'', b'']
+    found = [b'', b'\r'] + tabs() + names() + bytes_inside() + lengths() + labels() + results() + [b'', b'']
     found += [random_line(random) for _ in range(count)] + [line(b'last', b'fits', b'km', b'vou')]
-    return b'\n'.join(found) + (b'' if seed % 2 else b'\n')
+    return b'\n'.join(found)

@@ -1,5 +1,5 @@
 /* How much stack a call takes at most: stack [LIMIT] [COUNT]. Reads labels of repeated parts, as deep and as long as 255 bytes allow,
-   under the notation numbers 0 to 5, and COUNT random labels. Bytes are counted from the caller's frame on. */
+   under the notation numbers 0 to 5, and COUNT random labels, and converts each to itself. Bytes are counted from the caller's frame on. */
 #define _POSIX_C_SOURCE 200809L
 #include "labels.h"
 #include "painted.h"
@@ -35,7 +35,19 @@ static const struct shape shapes[] = {
     {"", "'m'", "", ""}, {"10**3'", "m", "'", ""},
 };
 
+/* the two calls, in the form of the first */
+static uint32_t convert_to_itself(uint32_t notation, const uint8_t *label, size_t label_size, uint8_t *record, size_t record_size)
+{
+    return thalinguze_convert(notation, label, label_size, notation, label, label_size, record, record_size);
+}
+
+static const struct {
+    const char *name;
+    reader *call;
+} measured[] = {{"reading", thalinguze_read}, {"converting", convert_to_itself}};
+
 struct worst {
+    const char *name;
     size_t use, size;
     uint32_t notation;
     uint8_t label[LABEL_ROOM];
@@ -44,17 +56,24 @@ static struct worst worst;
 static unsigned long calls;
 
 /* with room for the whole record, and with less */
-static void measure(uint32_t notation, const uint8_t *label, size_t size)
+static void measure_call(unsigned which, uint32_t notation, const uint8_t *label, size_t size)
 {
     size_t record_size = calls % 2 ? calls % THALINGUZE_RECORD_SIZE : ROOM_FOR_RECORD;
-    size_t use = stack_use((struct call){thalinguze_read, notation, label, size, record_size});
-    calls++;
+    size_t use = stack_use((struct call){measured[which].call, notation, label, size, record_size});
     if (use <= worst.use)
         return;
+    worst.name = measured[which].name;
     worst.use = use;
     worst.size = size;
     worst.notation = notation;
     memcpy(worst.label, label, size);
+}
+
+static void measure(uint32_t notation, const uint8_t *label, size_t size)
+{
+    for (unsigned which = 0; which < sizeof measured / sizeof measured[0]; which++)
+        measure_call(which, notation, label, size);
+    calls++;
 }
 
 /* the shape with as many repeats as fit into the bytes of a label, and with fewer */
@@ -79,8 +98,8 @@ static void measure_shape(const struct shape *shape, unsigned times)
 static void print_worst(size_t limit)
 {
     enum { SHOWN = 24 };
-    printf("%lu calls took at most %zu bytes of stack, %zu allowed: notation %u, %zu bytes, ", calls, worst.use, limit,
-           (unsigned)worst.notation, worst.size);
+    printf("%lu readings and as many conversions took at most %zu bytes of stack, %zu allowed: %s, notation %u, %zu bytes, ", calls,
+           worst.use, limit, worst.name, (unsigned)worst.notation, worst.size);
     for (size_t i = 0; i < worst.size && i < SHOWN; i++)
         putchar(worst.label[i] >= 0x20 && worst.label[i] < 0x7f ? worst.label[i] : '?');
     printf("%s\n", worst.size > SHOWN ? ".." : "");

@@ -1,5 +1,5 @@
 -- What converting answers: a number of a reading, or what the sums of two readings give.
-use Prim.Native.Nat.{ℕ, _≤_, _<_, _^_}
+use Prim.Native.Nat.{ℕ, _<_, _^_}
 use native.Mathlib.Omega.{arith}
 use native.Mathlib.Decide.{decLt}
 use mathlib.Core.Path.{_≡_, refl, sym, ap, _∙_}
@@ -8,8 +8,7 @@ use mathlib.Core.List.{List, map}
 use mathlib.Core.Logic.{_≢_}
 use lib.Dec.{leb, eqb}
 use lib.IntN.{ℤ}
-use borrow.Author.Tests.{le-leb, lt-leb, eq-eqb, ne-eqb, leb-true}
-use Rattle.label.specs.declared.Tens.{Tens}
+use borrow.Author.Tests.{lt-leb, ne-eqb, leb-true}
 use Rattle.label.specs.Reading.{exponent, Reading, reading}
 use Rattle.label.specs.Conversion.{refuse, unless, both-known, same-exponents, over, all-whole, fraction-of, small, bounded, converted, conversion}
 use Rattle.label.specs.Conversion as spec

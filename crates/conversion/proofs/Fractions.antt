@@ -2,14 +2,13 @@
 use Prim.Native.Nat.{ℕ, _+_, _*_, _%_, _≤_, _<_, _^_}
 use native.Mathlib.Omega.{arith}
 use native.Mathlib.Nat.{pow-zero}
-use mathlib.Core.Path.{_≡_, refl, sym, ap, _∙_}
-use mathlib.Core.Bool.{Bool, true, false, _&&_}
+use mathlib.Core.Path.{_≡_, refl, ap, _∙_}
+use mathlib.Core.Bool.{Bool, _&&_}
 use lib.Dec.{eqb}
 use lib.IntN.{ℤ, pos, negsuc, natAbs, _-ℤ_}
 use mir.Syntax.{w64}
 use mir.Val.{toZ, ofZ}
 use mir.Facts.{toZ-ofZ}
-use Rattle.label.specs.declared.Tens.{Tens}
 use Rattle.label.specs.Reading.{exponent}
 use Rattle.label.specs.Conversion.{whole, above, below, all-whole, fraction, fraction-of}
 use Rattle.content.proofs.Integers.{wide-fits}
@@ -17,7 +16,6 @@ use Rattle.conversion.specs.declared.answer.Conversion.{Conversion}
 use Rattle.conversion.specs.declared.fraction.Ratio.{Ratio}
 use Rattle.conversion.specs.Powers.{up, down, Held}
 use Rattle.conversion.specs.Answers.{ratio-in, Small, Nearly}
-use Rattle.conversion.proofs.Signs.{whole-held}
 
 -- a small number is told by its bits
 bits : (z : ℤ) → natAbs z < 2 ^ 31 → toZ w64 (ofZ w64 z) ≡ z

@@ -5,7 +5,7 @@ use native.Mathlib.Numerals.{add-one}
 use mathlib.Core.Path.{_≡_, refl, sym, ap, _∙_}
 use mathlib.Core.Bool.{true, false, _&&_}
 use mathlib.Core.List.{List, map, List·Memᴰ, List·Memᴰ·head, List·Memᴰ·tail}
-use lib.IntN.{ℤ, pos, negsuc, natAbs, _-ℤ_, pos-ne-negsuc}
+use lib.IntN.{ℤ, pos, negsuc, natAbs, _-ℤ_}
 use lib.ListN.{length, getD, drop, drop-of-length-le}
 use lib.Seq.{drop-cons}
 use lib.Signed.{mag}
@@ -27,8 +27,7 @@ use Rattle.reading.specs.declared.read.Answer.{Answer}
 use Rattle.reading.specs.Views.{reading-in}
 use Rattle.reading.specs.Answers.{Reads}
 use Rattle.reading.proofs.Answering.{dimensions-room}
-use Rattle.conversion.specs.declared.fraction.Ratio.{Ratio}
-use Rattle.conversion.specs.Answers.{Sums, Limited, Summed, ReadSums, ratio-in, Small}
+use Rattle.conversion.specs.Answers.{Sums, Limited, ReadSums, ratio-in, Small}
 
 -- WHAT THE SUMS OF A READING ARE
 

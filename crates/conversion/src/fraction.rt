@@ -9,12 +9,9 @@ use crate::powers::product;
 use label::Tens;
 use scan::class::both;
 ghost use mathlib.Core.Path.{_≡_};
-ghost use lib.ListN.{length};
-ghost use Prim.Native.Nat.{ℕ, _<_, _^_};
-ghost use mathlib.Core.List.{map};
-ghost use lib.IntN.{natAbs, pos};
-ghost use Rattle.label.specs.Reading.{exponent};
-ghost use Rattle.label.specs.Conversion.{over, all-whole, fraction-of};
+ghost use Prim.Native.Nat.{_<_, _^_};
+ghost use lib.IntN.{natAbs};
+ghost use Rattle.label.specs.Conversion.{all-whole, fraction-of};
 ghost use Rattle.conversion.specs.Answers.{ratio-in, Small, Nearly};
 
 // The exponents of 2, 3, 5 and 487 in first over second, in sixtieths.

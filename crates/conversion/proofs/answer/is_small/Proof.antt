@@ -1,7 +1,6 @@
 -- `conversion::answer::is_small` meets its contract: each test that fails, and k below its upper limit.
 use Prim.Native.Nat.{_^_}
 use native.Mathlib.Omega.{arith}
-use mathlib.Core.Path.{sym, _∙_}
 use mir.Syntax.{w32}
 use mir.Val.{SFits}
 use borrow.Author.Tests.{lt-leb, le-leb}

@@ -1,5 +1,4 @@
 -- `conversion::answer::unless` meets its contract.
-use mathlib.Core.Path.{refl, _∙_}
 use borrow.Author.Needs.{needs}
 use Rattle.label.specs.Conversion.{unless}
 use Rattle.conversion.proofs.answer.unless.Statement.{statement}

@@ -1,6 +1,6 @@
 -- `conversion::exponents::is_whole` meets its contract.
 use Prim.Native.Nat.{ℕ, _%_}
-use mathlib.Core.Path.{ap, _∙_}
+use mathlib.Core.Path.{ap}
 use lib.Dec.{eqb}
 use borrow.Author.Needs.{needs}
 use Rattle.conversion.proofs.Signs.{whole-held}

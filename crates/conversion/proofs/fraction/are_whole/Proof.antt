@@ -3,8 +3,6 @@ use borrow.Author.Needs.{needs}
 use Rattle.conversion.proofs.Fractions.{all-whole-is}
 use Rattle.conversion.proofs.fraction.are_whole.Statement.{statement}
 use Rattle.conversion.proofs.fraction.are_whole.Tie as tie
-use Rattle.conversion.proofs.fraction.are_whole.Reads as reads
-use Rattle.conversion.proofs.fraction.are_whole.Lts as lts
 
 returns : tie.Need-returns
 returns c =

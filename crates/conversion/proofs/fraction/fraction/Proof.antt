@@ -4,8 +4,6 @@ use borrow.Author.Needs.{needs}
 use Rattle.conversion.proofs.Fractions.{Ones, ones-told, fraction-is}
 use Rattle.conversion.proofs.fraction.fraction.Statement.{statement}
 use Rattle.conversion.proofs.fraction.fraction.Tie as tie
-use Rattle.conversion.proofs.fraction.fraction.Reads as reads
-use Rattle.conversion.proofs.fraction.fraction.Lts as lts
 
 -- the four exponents as ones
 fives : (c : tie.After-ones) → Ones (c .before .before .args .r .fives) (c .ones .result)

@@ -1,5 +1,4 @@
 -- `conversion::powers::product` meets its contract.
-use native.Mathlib.Omega.{arith}
 use borrow.Author.Needs.{needs}
 use Rattle.conversion.proofs.Raising.{held-product}
 use Rattle.conversion.proofs.powers.product.Statement.{statement}

@@ -1,5 +1,4 @@
 -- `conversion::sums::read_sums` meets its contract.
-use native.Mathlib.Omega.{arith}
 use borrow.Author.Needs.{needs}
 use Rattle.conversion.proofs.Summing.{read-summed}
 use Rattle.conversion.proofs.sums.read_sums.Statement.{statement}

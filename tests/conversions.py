@@ -110,8 +110,8 @@ LIMITS = [
     # 2 to the 53, and 2 to the 54
     (4, 'byte**17.byte**(2/3)', 4, 'bit**17.bit**(2/3)'), (4, 'byte**18', 4, 'bit**18'),
     (4, 'bit**17.bit**(2/3)', 4, 'byte**17.byte**(2/3)'), (4, 'bit**18', 4, 'byte**18'),
-    # 3 to the 33, and 3 to the 34, with twos and tens; 487 to the 5, and to the 6
-    (3, 'min33', 3, 's33'), (3, 'min34', 3, 's34'), (3, 's33', 3, 'min33'), (3, 's34', 3, 'min34'),
+    # below 2 to the 53, and above it: 6 to the 20 and to the 21, 1,461 to the 5 and to the 6
+    (3, 'min20', 3, 's20'), (3, 'min21', 3, 's21'), (3, 's20', 3, 'min20'), (3, 's21', 3, 'min21'),
     (3, 'yr5', 3, 'd5'), (3, 'yr6', 3, 'd6'), (3, 'd5', 3, 'yr5'), (3, 'd6', 3, 'yr6'), (3, 'd1', 3, 'yr1'), (3, 'yr', 3, 's'),
     # 32 terms
     (3, repeated('ybarn99', 32), 3, repeated('ybarn99', 32)), (3, repeated('ybarn99', 32), 3, repeated('barn99', 32)),

@@ -27,11 +27,10 @@ test: all $(TESTS)
 	@tests/readme.sh
 	@tests/second.sh
 	@tests/independent.sh
-	@tests/convert.sh
 	@tests/stack.sh
 	@tests/guard.sh
 
-compare: all build/tests/print_labels
+compare: all build/tests/print_labels build/tests/convert
 	@tests/second.sh $(COUNT) 1 all
 	@tests/independent.sh $(COUNT)
 

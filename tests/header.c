@@ -91,13 +91,17 @@ static const struct constant *find(const struct constant *table, size_t count, u
     return NULL;
 }
 
-static void check_name(uint64_t key, int row, unsigned notations)
+/* a name's code has its length, the notations that know it and its unit's row, a byte each */
+static void check_name(uint64_t key, unsigned code)
 {
     uint8_t record[THALINGUZE_RECORD_SIZE];
+    int row = (int)(code & 255);
+    unsigned notations = code >> 8 & 255;
     const struct constant *c = find(units, UNIT_NAMES, key);
     check(c != NULL, "a name of the tables that this test lacks", "see tables.rt");
     if (!c)
         return;
+    check(strlen(c->symbol) == code >> 16, "the length of a name", c->symbol);
     check(c->code == row + 1, "unit constant", c->name);
     const struct constant *shown = row >= 0 && row < THALINGUZE_UNITS ? find(units, UNIT_NAMES, key_of(unit_words[row + 1].symbol)) : NULL;
     check(shown && shown->code == row + 1 && strcmp(shown->name, c->name) == 0, "symbol of the command", c->name);
@@ -110,9 +114,11 @@ static void check_name(uint64_t key, int row, unsigned notations)
     }
 }
 
-static void check_prefix(int place, uint64_t key, int power)
+/* a prefix's code has its length above its two letters */
+static void check_prefix(int place, unsigned code, int power)
 {
-    const struct constant *c = find(prefixes, PREFIX_NAMES, key);
+    const struct constant *c = find(prefixes, PREFIX_NAMES, code & 0xffff);
+    check(c && strlen(c->symbol) == code >> 16, "the length of a prefix", c ? c->symbol : "lacking");
     check(c && c->code == place + 1, "prefix constant", c ? c->name : "lacking");
     if (!c || place >= PREFIX_NAMES)
         return;
@@ -136,13 +142,13 @@ static void check_tables(void)
     int names = 0, prefix_count = 0;
     while (fgets(line, sizeof line, stdin)) {
         uint64_t key;
-        int row, power;
-        unsigned notations;
-        if (sscanf(line, "name %" SCNu64 " %d %u", &key, &row, &notations) == 3) {
-            check_name(key, row, notations);
+        unsigned code;
+        int power;
+        if (sscanf(line, "name %" SCNu64 " %x", &key, &code) == 2) {
+            check_name(key, code);
             names++;
-        } else if (sscanf(line, "prefix %" SCNu64 " %d", &key, &power) == 2) {
-            check_prefix(prefix_count++, key, power);
+        } else if (sscanf(line, "prefix %x %d", &code, &power) == 2) {
+            check_prefix(prefix_count++, code, power);
         } else {
             check(false, "a line of the tables that is not understood", line);
         }

@@ -1,12 +1,12 @@
-# Takes names, units, notations and prefixes out of the columns of crates/symbols/src/tables.rt. Cells stay strings: a key of eight
-# letters is above what a floating number holds. Prints a line "name KEY ROW NOTATIONS" for each name and "prefix KEY POWER" for each
-# prefix, in the table's order.
+# Takes names and prefixes out of the columns of crates/symbols/src/tables.rt. Cells stay strings: a key of eight letters is above what a
+# floating number holds. Prints a line "name KEY CODE" for each name and "prefix CODE POWER" for each prefix, in the table's order, codes in
+# hexadecimal.
 /^const [A-Z_]+: \[/ { column = $2; sub(/:$/, "", column); next }
 /^\];/ { column = ""; next }
-column != "" { cell = $1; sub(/,$/, "", cell); cells[column, count[column]++] = cell }
+column != "" { cell = $1; sub(/,$/, "", cell); gsub(/_/, "", cell); cells[column, count[column]++] = cell }
 END {
     for (i = 0; i < count["NAME_KEYS"]; i++)
-        print "name", cells["NAME_KEYS", i], cells["NAME_UNITS", i], cells["NAME_NOTATIONS", i]
-    for (i = 0; i < count["PREFIX_KEYS"]; i++)
-        print "prefix", cells["PREFIX_KEYS", i], cells["PREFIX_POWERS", i]
+        print "name", cells["NAME_KEYS", i], cells["NAME_CODES", i]
+    for (i = 0; i < count["PREFIX_CODES"]; i++)
+        print "prefix", cells["PREFIX_CODES", i], cells["PREFIX_POWERS", i]
 }

@@ -1,7 +1,7 @@
 // What the spellings of a label's terms stand for, in a lent array. `names` has the prefixes of 32 terms at 0 to 31, each as one more than its
 // place in the table, or 0; their units at 32 to 63, each as one more than its row, or 0 for an unknown one; and where the letters of an
 // unknown unit start and end in the label, at 64 to 95 and at 96 to 127, both 0 for a known one.
-use symbols::Part;
+use symbols::Span;
 use symbols::Symbol;
 use symbols::lookup::symbol;
 use symbols::tables::name_codes;
@@ -92,11 +92,11 @@ pub fn all_named(
     let count = places[64];
     let mut i = 0;
     while i < count {
-        let part = Part {
+        let span = Span {
             start: places[i],
             end: places[32 + i],
         };
-        let x = symbol(&keys, &codes, &prefixes, n, s, part);
+        let x = symbol(&keys, &codes, &prefixes, n, s, span);
         note(names, i, x);
         i += 1;
     }

@@ -18,7 +18,7 @@ pub struct Symbol {
 }
 
 // The bytes of a label from `start` up to `end`.
-pub struct Part {
+pub struct Span {
     pub start: usize,
     pub end: usize,
 }

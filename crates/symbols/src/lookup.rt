@@ -1,6 +1,6 @@
 // The lookup of a spelling by the rule of the first fit. The columns of the tables are lent by the caller.
 use crate::Cut;
-use crate::Part;
+use crate::Span;
 use crate::Symbol;
 use crate::keys::first_quote;
 use crate::keys::has_notation;
@@ -118,23 +118,23 @@ fn unknown_symbol(prefix: u8, start: usize, end: usize) -> Symbol
 }
 
 // The prefix that the first `count` letters of a spelling are, where letters follow them.
-fn cut(prefixes: &[u32], s: &[u8], part: Part, count: usize) -> Cut
+fn cut(prefixes: &[u32], s: &[u8], span: Span, count: usize) -> Cut
     requires { ⌜ now prefixes ≡ prefix-codes ⌝ }
-    requires { ⌜ (part .start ≤ part .end) × (part .end ≤ length (now s)) ⌝ }
-    ensures { λ r. ⌜ CutAt count (now (s .entry)) (part .start) (part .end) r ⌝ }
+    requires { ⌜ (span .start ≤ span .end) × (span .end ≤ length (now s)) ⌝ }
+    ensures { λ r. ⌜ CutAt count (now (s .entry)) (span .start) (span .end) r ⌝ }
 {
-    if part.end - part.start <= count {
+    if span.end - span.start <= count {
         return Cut {
             prefix: 0,
-            rest: part.start,
+            rest: span.start,
         };
     }
-    let middle = part.start + count;
-    let prefix = prefix_named(prefixes, s, part.start, middle);
+    let middle = span.start + count;
+    let prefix = prefix_named(prefixes, s, span.start, middle);
     if prefix == 0 {
         return Cut {
             prefix: 0,
-            rest: part.start,
+            rest: span.start,
         };
     }
     Cut {
@@ -167,25 +167,25 @@ fn first_prefixed(two: Cut, one: Cut, end: usize) -> Symbol
 }
 
 // The symbol of a spelling that is not known whole: a prefix and a known rest, the longest prefix, or neither.
-fn by_cut(keys: &[u64], codes: &[u32], prefixes: &[u32], n: u8, s: &[u8], part: Part) -> Symbol
+fn by_cut(keys: &[u64], codes: &[u32], prefixes: &[u32], n: u8, s: &[u8], span: Span) -> Symbol
     requires { ⌜ NameColumns (now keys) (now codes) ⌝ }
     requires { ⌜ now prefixes ≡ prefix-codes ⌝ }
-    requires { ⌜ (part .start ≤ part .end) × (part .end ≤ length (now s)) ⌝ }
+    requires { ⌜ (span .start ≤ span .end) × (span .end ≤ length (now s)) ⌝ }
     ensures { λ r. ⌜ symbol-in (now (s .entry)) r
-        ≡ by-cut (between (now (s .entry)) (part .start) (part .end)) (known-cuts n (between (now (s .entry)) (part .start) (part .end))) ⌝ }
-    ensures { λ r. ⌜ Bounded (part .start) (part .end) r × UpTo (part .end) r ⌝ }
+        ≡ by-cut (between (now (s .entry)) (span .start) (span .end)) (known-cuts n (between (now (s .entry)) (span .start) (span .end))) ⌝ }
+    ensures { λ r. ⌜ Bounded (span .start) (span .end) r × UpTo (span .end) r ⌝ }
 {
-    let two = cut(prefixes, s, part, 2);
-    let after_two = unit_after(keys, codes, n, s, two, part.end);
+    let two = cut(prefixes, s, span, 2);
+    let after_two = unit_after(keys, codes, n, s, two, span.end);
     if 0 < after_two {
         return known_symbol(two.prefix, after_two);
     }
-    let one = cut(prefixes, s, part, 1);
-    let after_one = unit_after(keys, codes, n, s, one, part.end);
+    let one = cut(prefixes, s, span, 1);
+    let after_one = unit_after(keys, codes, n, s, one, span.end);
     if 0 < after_one {
         return known_symbol(one.prefix, after_one);
     }
-    first_prefixed(two, one, part.end)
+    first_prefixed(two, one, span.end)
 }
 
 // The symbol of a spelling without quotes: known whole, or by its cuts.
@@ -195,49 +195,49 @@ fn unquoted_symbol(
     prefixes: &[u32],
     n: u8,
     s: &[u8],
-    part: Part,
+    span: Span,
 ) -> Symbol
     requires { ⌜ NameColumns (now keys) (now codes) ⌝ }
     requires { ⌜ now prefixes ≡ prefix-codes ⌝ }
-    requires { ⌜ (part .start ≤ part .end) × (part .end ≤ length (now s)) ⌝ }
+    requires { ⌜ (span .start ≤ span .end) × (span .end ≤ length (now s)) ⌝ }
     ensures { λ r. ⌜ symbol-in (now (s .entry)) r
-        ≡ by-whole n (between (now (s .entry)) (part .start) (part .end)) (unit-named n (between (now (s .entry)) (part .start) (part .end))) ⌝ }
-    ensures { λ r. ⌜ Bounded (part .start) (part .end) r × UpTo (part .end) r ⌝ }
+        ≡ by-whole n (between (now (s .entry)) (span .start) (span .end)) (unit-named n (between (now (s .entry)) (span .start) (span .end))) ⌝ }
+    ensures { λ r. ⌜ Bounded (span .start) (span .end) r × UpTo (span .end) r ⌝ }
 {
-    let whole = unit_named(keys, codes, n, s, part.start, part.end);
+    let whole = unit_named(keys, codes, n, s, span.start, span.end);
     if 0 < whole {
         return known_symbol(0, whole);
     }
-    by_cut(keys, codes, prefixes, n, s, part)
+    by_cut(keys, codes, prefixes, n, s, span)
 }
 
 // The symbol of a spelling with a quote at `quote`: the prefix before the quote, and the letters up to the next quote.
-fn quoted_symbol(prefixes: &[u32], s: &[u8], part: Part, quote: usize) -> Symbol
+fn quoted_symbol(prefixes: &[u32], s: &[u8], span: Span, quote: usize) -> Symbol
     requires { ⌜ now prefixes ≡ prefix-codes ⌝ }
-    requires { ⌜ (part .start ≤ quote) × ((quote < part .end) × (part .end ≤ length (now s))) ⌝ }
+    requires { ⌜ (span .start ≤ quote) × ((quote < span .end) × (span .end ≤ length (now s))) ⌝ }
     ensures { λ r. ⌜ symbol-in (now (s .entry)) r
-        ≡ unknown (prefix-named (between (now (s .entry)) (part .start) quote))
-        (run unquoted (between (now (s .entry)) (quote + 1) (part .end))) ⌝ }
-    ensures { λ r. ⌜ Bounded (part .start) (part .end) r × (r .start ≡ quote + 1) ⌝ }
+        ≡ unknown (prefix-named (between (now (s .entry)) (span .start) quote))
+        (run unquoted (between (now (s .entry)) (quote + 1) (span .end))) ⌝ }
+    ensures { λ r. ⌜ Bounded (span .start) (span .end) r × (r .start ≡ quote + 1) ⌝ }
 {
-    let prefix = prefix_named(prefixes, s, part.start, quote);
+    let prefix = prefix_named(prefixes, s, span.start, quote);
     let first = quote + 1;
-    let last = first_quote(s, first, part.end);
+    let last = first_quote(s, first, span.end);
     unknown_symbol(prefix, first, last)
 }
 
 // The symbol that a spelling of the label stands for in notation `n`.
-pub fn symbol(keys: &[u64], codes: &[u32], prefixes: &[u32], n: u8, s: &[u8], part: Part) -> Symbol
+pub fn symbol(keys: &[u64], codes: &[u32], prefixes: &[u32], n: u8, s: &[u8], span: Span) -> Symbol
     requires { ⌜ NameColumns (now keys) (now codes) ⌝ }
     requires { ⌜ now prefixes ≡ prefix-codes ⌝ }
-    requires { ⌜ (part .start ≤ part .end) × (part .end ≤ length (now s)) ⌝ }
-    ensures { λ r. ⌜ symbol-in (now (s .entry)) r ≡ symbol n (between (now (s .entry)) (part .start) (part .end)) ⌝ }
-    ensures { λ r. ⌜ Bounded (part .start) (part .end) r ⌝ }
-    ensures { λ r. ⌜ (r .known ≡ false → LettersAt (now (s .entry)) (part .start) (part .end) (r .start) (r .end)) ⌝ }
+    requires { ⌜ (span .start ≤ span .end) × (span .end ≤ length (now s)) ⌝ }
+    ensures { λ r. ⌜ symbol-in (now (s .entry)) r ≡ symbol n (between (now (s .entry)) (span .start) (span .end)) ⌝ }
+    ensures { λ r. ⌜ Bounded (span .start) (span .end) r ⌝ }
+    ensures { λ r. ⌜ (r .known ≡ false → LettersAt (now (s .entry)) (span .start) (span .end) (r .start) (r .end)) ⌝ }
 {
-    let quote = first_quote(s, part.start, part.end);
-    if quote < part.end {
-        return quoted_symbol(prefixes, s, part, quote);
+    let quote = first_quote(s, span.start, span.end);
+    if quote < span.end {
+        return quoted_symbol(prefixes, s, span, quote);
     }
-    unquoted_symbol(keys, codes, prefixes, n, s, part)
+    unquoted_symbol(keys, codes, prefixes, n, s, span)
 }

@@ -1,3 +1,4 @@
+pub mod HeldSigns
 pub mod Integers
 pub mod Listing
 pub mod Naming

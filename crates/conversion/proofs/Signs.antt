@@ -3,16 +3,17 @@ use Prim.Native.Nat.{ℕ, suc, _+_, _-_, _/_, _%_, _≤_, _<_, _^_}
 use native.Mathlib.Omega.{arith}
 use mathlib.Core.Path.{_≡_, refl, sym, ap, _∙_}
 use mathlib.Core.Bool.{Bool, true, false}
-use lib.Dec.{T, leb, ltb, eqb}
+use lib.Dec.{leb, eqb}
 use lib.IntN.{ℤ, pos, negsuc, negℤ, natAbs, _-ℤ_}
-use lib.Signed.{mag, ltZ, leZ, nonNeg, quotZ}
+use lib.Signed.{ltZ, leZ, quotZ}
 use mir.Syntax.{w32, w64}
-use mir.Val.{Fits, SFits, toZ, ofZ}
+use mir.Val.{SFits, toZ, ofZ}
 use mir.Facts.{toZ-ofZ}
-use borrow.Author.Tests.{ltb-true, ltb-false, le-ltb, lt-leb, le-leb}
+use borrow.Author.Tests.{ltb-true, ltb-false, lt-leb, le-leb}
 use Rattle.label.specs.Reading.{exponent}
 use Rattle.label.specs.Conversion.{whole}
 use Rattle.label.proofs.Basics.{false-true}
+use Rattle.content.proofs.HeldSigns.{negative, held-rest, natural, held}
 use Rattle.content.proofs.Integers.{abs-sum, abs-neg, abs-mag, mag-abs, wide-fits}
 use Rattle.conversion.specs.Powers.{up, down}
 
@@ -22,75 +23,32 @@ neg-size (negsuc n) = refl
 
 -- SIZES
 
--- a negative number
-record Negative (z : ℤ) : Type 0 where
-  pub less : ℕ
-  pub is : z ≡ negsuc less
-
-negative : (z : ℤ) → ltZ z (pos 0) ≡ true → Negative z
-negative (pos n) t = absurd (omega (arith, ltb-true n 0 t))
-negative (negsuc n) t = record { less = n; is = refl }
-
-natural : (z : ℤ) → ltZ z (pos 0) ≡ false → z ≡ pos (natAbs z)
-natural (pos n) t = refl
-natural (negsuc n) t = absurd (false-true (sym t))
-
-below-one : (n : ℕ) → negsuc 0 -ℤ negsuc n ≡ pos n
-below-one n =
-    let e : ltb (suc n) 1 ≡ false = le-ltb (suc n) 1 (omega arith) in
-    let q : suc n - 1 ≡ n = omega arith in
-    rw (e, q)
-
 module _ {z : ℤ} (f : SFits w64 z) where
-  module _ (t : ltZ (toZ w64 (ofZ w64 z)) (pos 0) ≡ true) where
-    negative-held : Negative z
-    negative-held = negative z (rw (← toZ-ofZ f) t)
+  pub bits-size : natAbs (toZ w64 (ofZ w64 z)) ≡ natAbs z
+  bits-size = ap natAbs (toZ-ofZ f)
 
+  module _ (t : ltZ (toZ w64 (ofZ w64 z)) (pos 0) ≡ true) where
     abbrev rest : ℤ
     rest = negsuc 0 -ℤ toZ w64 (ofZ w64 z)
 
-    rest-is : rest ≡ pos (negative-held .less)
-    rest-is = ap (λ (y : ℤ). negsuc 0 -ℤ y) (toZ-ofZ f ∙ negative-held .is) ∙ below-one (negative-held .less)
-
-    less-small : negative-held .less < 2 ^ 63
-    less-small = omega (arith, f .sfits, ap mag (negative-held .is))
-
-    pub rest-fits : SFits w64 rest
-    rest-fits = rw rest-is (record { sfits = less-small })
-
-    held-rest : toZ w64 (ofZ w64 rest) ≡ pos (negative-held .less)
-    held-rest = toZ-ofZ rest-fits ∙ rest-is
-
-    pub rest-cast : T (nonNeg (toZ w64 (ofZ w64 rest))) × Fits w64 (natAbs (toZ w64 (ofZ w64 rest)))
-    rest-cast = rw held-rest (tt, record { fits = omega (arith, less-small) })
-
     pub rest-more : natAbs (toZ w64 (ofZ w64 rest)) + 1 < 2 ^ 64
-    rest-more = omega (arith, ap natAbs held-rest, less-small)
+    rest-more = omega (arith, ap natAbs (held-rest f t), negative f t .small)
 
     pub rest-size : natAbs (toZ w64 (ofZ w64 rest)) + 1 ≡ natAbs z
-    rest-size = omega (arith, ap natAbs held-rest, ap natAbs (negative-held .is))
+    rest-size = omega (arith, ap natAbs (held-rest f t), ap natAbs (negative f t .is))
 
     pub up-negative : 0 ≡ up z
-    up-negative = sym (ap up (negative-held .is))
+    up-negative = sym (ap up (negative f t .is))
 
     pub down-negative : {n : ℕ} → n ≡ natAbs (toZ w64 (ofZ w64 z)) → n ≡ down z
-    down-negative e = e ∙ ap natAbs (toZ-ofZ f ∙ negative-held .is) ∙ sym (ap down (negative-held .is))
+    down-negative e = e ∙ ap natAbs (toZ-ofZ f ∙ negative f t .is) ∙ sym (ap down (negative f t .is))
 
   module _ (t : ltZ (toZ w64 (ofZ w64 z)) (pos 0) ≡ false) where
-    held-natural : toZ w64 (ofZ w64 z) ≡ pos (natAbs z)
-    held-natural = toZ-ofZ f ∙ natural z (rw (← toZ-ofZ f) t)
-
-    pub natural-cast : T (nonNeg (toZ w64 (ofZ w64 z))) × Fits w64 (natAbs (toZ w64 (ofZ w64 z)))
-    natural-cast = rw held-natural (tt, record { fits = omega (arith, f .sfits, abs-mag z) })
-
-    pub natural-size : natAbs (toZ w64 (ofZ w64 z)) ≡ natAbs z
-    natural-size = ap natAbs held-natural
-
     pub up-natural : {n : ℕ} → n ≡ natAbs (toZ w64 (ofZ w64 z)) → n ≡ up z
-    up-natural e = e ∙ natural-size ∙ sym (ap up (natural z (rw (← toZ-ofZ f) t)))
+    up-natural e = e ∙ ap natAbs (held f t) ∙ sym (ap up (natural f t .is))
 
     pub down-natural : 0 ≡ down z
-    down-natural = sym (ap down (natural z (rw (← toZ-ofZ f) t)))
+    down-natural = sym (ap down (natural f t .is))
 
   -- where z is small enough for 32 bits
   pub narrow-fits : natAbs z < 2 ^ 31 → SFits w32 (toZ w64 (ofZ w64 z))

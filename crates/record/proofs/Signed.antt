@@ -1,84 +1,29 @@
--- Signed numbers of 64 bits: two's complement, and small numbers as the machine holds them.
-use Prim.Native.Nat.{ℕ, suc, _-_, _<_, _≤_, _^_}
+-- Two's complement of 64 bits.
+use Prim.Native.Nat.{suc, _-_, _≤_, _^_}
 use native.Mathlib.Omega.{arith}
-use mathlib.Core.Path.{_≡_, refl, sym, ap, _∙_}
+use mathlib.Core.Path.{_≡_, sym, ap, _∙_}
 use mathlib.Core.Bool.{true, false}
-use lib.Dec.{T, ltb}
-use borrow.Author.Tests.{ltb-true, le-ltb}
 use lib.IntN.{ℤ, pos, negsuc, natAbs, _-ℤ_}
-use lib.Signed.{ltZ, nonNeg}
+use lib.Signed.{ltZ}
 use mir.Syntax.{w64}
-use mir.Val.{Fits, SFits, toZ, ofZ}
-use mir.Facts.{toZ-ofZ}
-use Rattle.label.proofs.Basics.{false-true}
+use mir.Val.{SFits, toZ, ofZ}
+use Rattle.content.proofs.HeldSigns.{negative, held-rest, natural, held}
 use Rattle.record.specs.Record.{complement}
-
--- NEGATIVE NUMBERS
-
-pub record Negative (v : ℤ) : Type 0 where
-  pub n : ℕ
-  pub is : v ≡ negsuc n
-  pub small : n < 2 ^ 63
-
-negative-of : (v : ℤ) → SFits w64 v → ltZ v (pos 0) ≡ true → Negative v
-negative-of (pos n) f t = absurd (omega (arith, ltb-true n 0 t))
-negative-of (negsuc n) f t = record { n = n; is = refl; small = f .sfits }
-
-below-one : (n : ℕ) → negsuc 0 -ℤ negsuc n ≡ pos n
-below-one n =
-    let e : ltb (suc n) 1 ≡ false = le-ltb (suc n) 1 (omega arith) in
-    let q : suc n - 1 ≡ n = omega arith in
-    rw (e, q)
 
 module _ {v : ℤ} (f : SFits w64 v) (t : ltZ (toZ w64 (ofZ w64 v)) (pos 0) ≡ true) where
   abbrev rest : ℤ
   rest = negsuc 0 -ℤ toZ w64 (ofZ w64 v)
 
-  negative : Negative v
-  negative = negative-of v f (rw (← toZ-ofZ f) t)
-
-  rest-is : rest ≡ pos (negative .n)
-  rest-is = ap (λ (z : ℤ). negsuc 0 -ℤ z) (toZ-ofZ f ∙ negative .is) ∙ below-one (negative .n)
-
-  pub rest-fits : SFits w64 rest
-  rest-fits = rw rest-is (record { sfits = negative .small })
-
-  held-rest : toZ w64 (ofZ w64 rest) ≡ pos (negative .n)
-  held-rest = toZ-ofZ rest-fits ∙ rest-is
-
-  pub rest-cast : T (nonNeg (toZ w64 (ofZ w64 rest))) × Fits w64 (natAbs (toZ w64 (ofZ w64 rest)))
-  rest-cast = rw held-rest (tt, record { fits = omega (arith, negative .small) })
-
   pub rest-below : natAbs (toZ w64 (ofZ w64 rest)) ≤ 18446744073709551615
-  rest-below = rw held-rest (omega (arith, negative .small))
+  rest-below = rw (held-rest f t) (omega (arith, negative f t .small))
 
   pub negative-is : 18446744073709551615 - natAbs (toZ w64 (ofZ w64 rest)) ≡ complement v
   unfolding complement
   negative-is =
-      let e : 18446744073709551615 - negative .n ≡ 2 ^ 64 - suc (negative .n) = omega arith in
-      ap (λ (z : ℤ). 18446744073709551615 - natAbs z) held-rest ∙ e ∙ sym (ap complement (negative .is))
-
--- OTHER NUMBERS
-
-pub record Natural (v : ℤ) : Type 0 where
-  pub n : ℕ
-  pub is : v ≡ pos n
-  pub small : n < 2 ^ 63
-
-natural-of : (v : ℤ) → SFits w64 v → ltZ v (pos 0) ≡ false → Natural v
-natural-of (pos n) f t = record { n = n; is = refl; small = f .sfits }
-natural-of (negsuc n) f t = absurd (false-true (sym t))
+      let e : 18446744073709551615 - negative f t .n ≡ 2 ^ 64 - suc (negative f t .n) = omega arith in
+      ap (λ (z : ℤ). 18446744073709551615 - natAbs z) (held-rest f t) ∙ e ∙ sym (ap complement (negative f t .is))
 
 module _ {v : ℤ} (f : SFits w64 v) (t : ltZ (toZ w64 (ofZ w64 v)) (pos 0) ≡ false) where
-  natural : Natural v
-  natural = natural-of v f (rw (← toZ-ofZ f) t)
-
-  held : toZ w64 (ofZ w64 v) ≡ pos (natural .n)
-  held = toZ-ofZ f ∙ natural .is
-
-  pub natural-cast : T (nonNeg (toZ w64 (ofZ w64 v))) × Fits w64 (natAbs (toZ w64 (ofZ w64 v)))
-  natural-cast = rw held (tt, record { fits = omega (arith, natural .small) })
-
   pub natural-is : natAbs (toZ w64 (ofZ w64 v)) ≡ complement v
   unfolding complement
-  natural-is = ap natAbs held ∙ sym (ap complement (natural .is))
+  natural-is = ap natAbs (held f t) ∙ sym (ap complement (natural f t .is))

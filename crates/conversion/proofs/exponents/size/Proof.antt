@@ -1,6 +1,7 @@
 -- `conversion::exponents::size` meets its contract: a negative number and any other.
 use native.Mathlib.Omega.{arith}
-use Rattle.conversion.proofs.Signs.{rest-fits, rest-cast, rest-more, rest-size, natural-cast, natural-size}
+use Rattle.content.proofs.HeldSigns.{rest-fits, rest-cast, natural-cast}
+use Rattle.conversion.proofs.Signs.{rest-more, rest-size, bits-size}
 use Rattle.conversion.proofs.exponents.size.Statement.{statement}
 use Rattle.conversion.proofs.exponents.size.Tie as tie
 
@@ -13,4 +14,4 @@ size-spec =
     (λ c. omega (arith, rest-more (c .before .fits .z) (c .if1 .taken)))
     (λ c. rest-size (c .before .fits .z) (c .if1 .taken))
     (λ c. natural-cast (c .before .fits .z) (c .if1 .left))
-    (λ c. natural-size (c .before .fits .z) (c .if1 .left)))
+    (λ c. bits-size (c .before .fits .z)))

@@ -1,5 +1,6 @@
 -- `record::numbers::complement` meets its contract: a negative number and any other.
-use Rattle.record.proofs.Signed.{rest-fits, rest-cast, rest-below, negative-is, natural-cast, natural-is}
+use Rattle.content.proofs.HeldSigns.{rest-fits, rest-cast, natural-cast}
+use Rattle.record.proofs.Signed.{rest-below, negative-is, natural-is}
 use Rattle.record.proofs.numbers.complement.Statement.{statement}
 use Rattle.record.proofs.numbers.complement.Tie as tie
 

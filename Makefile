@@ -25,7 +25,7 @@ test: all $(TESTS)
 	@build/tests/advice
 	@tests/read.sh
 	@tests/readme.sh
-	@tests/second.sh
+	@tests/second.sh 5000 1 all
 	@tests/independent.sh
 	@tests/stack.sh
 	@tests/guard.sh

@@ -55,7 +55,7 @@ build/%.o: c/%.c $(HEADERS)
 build/thalinguze: $(PARTS) $(LIBRARY)
 	$(CC) -o $@ $^
 
-build/tests/%: tests/%.c tests/labels.h tests/painted.h tests/reader.h $(HEADERS) $(LIBRARY)
+build/tests/%: tests/%.c tests/arena.h tests/labels.h tests/painted.h tests/reader.h $(HEADERS) $(LIBRARY)
 	@mkdir -p build/tests
 	$(CC) $(CFLAGS) -o $@ $(filter %.c,$^) $(LIBRARY)
 
@@ -63,7 +63,7 @@ build/tests/stack: CFLAGS += -pthread
 build/tests/guard build/tests/advice build/tests/convert: CFLAGS += $(SANITIZERS)
 build/tests/advice: c/advice.c c/loose.c c/loose_numbers.c c/meant.c
 
-build/tests/guard-plain: tests/guard.c tests/labels.h $(HEADERS) $(LIBRARY)
+build/tests/guard-plain: tests/guard.c tests/arena.h tests/labels.h $(HEADERS) $(LIBRARY)
 	@mkdir -p build/tests
 	$(CC) $(CFLAGS) -g -o $@ $< $(LIBRARY)
 

@@ -1,14 +1,13 @@
 /* Converts the lines of standard input, each with a notation number, bytes in hexadecimal (- if none), and both again for the second
-   label, and prints each with its answer: number, numerator, denominator and k. Of each line it also checks the lent buffer: a refusal
-   changes no byte, a buffer that is shorter than the record gets the bytes that fit, and no byte past the record changes. */
+   label, and prints each with its answer: number, numerator, denominator and k. The bounds of labels and buffers are watched. Of each line
+   it also checks the lent buffer: a refusal changes no byte, a buffer that is shorter than the record gets the bytes that fit, and no byte
+   past the record changes. */
+#define _DEFAULT_SOURCE
 #include <inttypes.h>
-#include <stdbool.h>
-#include <stdio.h>
-#include <stdlib.h>
-#include <string.h>
+#include "arena.h"
 #include "../include/thalinguze.h"
 
-enum { ROOM = THALINGUZE_CONVERSION_SIZE + 8, LABEL_ROOM = 1024, PATTERN = 0xa5 };
+enum { ROOM = THALINGUZE_CONVERSION_SIZE + 8, LABEL_ROOM = 1024, FILL = 0xa5 };
 
 struct label {
     uint32_t notation;
@@ -31,50 +30,61 @@ static bool decode(struct label *l)
     return true;
 }
 
-/* the labels and the buffer of this size stand in memory of just their sizes, which the sanitizers watch */
-static uint32_t convert(const struct label *a, const struct label *b, uint8_t *record, size_t size)
+static struct arena first_arena, second_arena, record_arena;
+
+static uint8_t *lend(const struct arena *a, const struct label *l, unsigned where)
 {
-    uint8_t *first = malloc(a->size + 1), *second = malloc(b->size + 1), *lent = malloc(size + 1);
-    memcpy(first + 1, a->bytes, a->size);
-    memcpy(second + 1, b->bytes, b->size);
-    memset(lent + 1, PATTERN, size);
-    uint32_t number = thalinguze_convert(a->notation, first + 1, a->size, b->notation, second + 1, b->size, lent + 1, size);
-    if (memcmp(first + 1, a->bytes, a->size) != 0 || memcmp(second + 1, b->bytes, b->size) != 0)
-        number = UINT32_MAX;
-    memcpy(record, lent + 1, size);
-    free(first);
-    free(second);
-    free(lent);
-    return number;
+    uint8_t *text = place(a, l->size, where, FILL);
+    memcpy(text, l->bytes, l->size);
+    return text;
 }
 
-static bool right_buffer(uint32_t number, const uint8_t *whole, const uint8_t *record, size_t size)
+static bool kept(const struct arena *a, const struct label *l, const uint8_t *text)
 {
-    for (size_t i = 0; i < size; i++)
-        if (record[i] != (number == 0 && i < THALINGUZE_CONVERSION_SIZE ? whole[i] : PATTERN))
-            return false;
-    return true;
+    return memcmp(text, l->bytes, l->size) == 0 && outside_kept(a, text, l->size, FILL);
+}
+
+/* converts into a buffer of that size; the first bytes, as many as a conversion writes, come into the record */
+static bool convert(const struct label *a, const struct label *b, size_t size, unsigned where, uint32_t *number, uint8_t *record)
+{
+    uint8_t *first = lend(&first_arena, a, where), *second = lend(&second_arena, b, where), *lent = place(&record_arena, size, where, FILL);
+    *number = thalinguze_convert(a->notation, first, a->size, b->notation, second, b->size, lent, size);
+    size_t written = *number != 0 ? 0 : size < THALINGUZE_CONVERSION_SIZE ? size : THALINGUZE_CONVERSION_SIZE;
+    memcpy(record, lent, written);
+    return kept(&first_arena, a, first) && kept(&second_arena, b, second) && outside_kept(&record_arena, lent, written, FILL);
+}
+
+/* a whole record, then one of another size at another place */
+static bool answer(const struct label *a, const struct label *b, unsigned long line, uint32_t *number, uint8_t *whole)
+{
+    uint8_t part[THALINGUZE_CONVERSION_SIZE];
+    uint32_t again;
+    size_t size = line % ROOM, common = size < THALINGUZE_CONVERSION_SIZE ? size : THALINGUZE_CONVERSION_SIZE;
+    if (!convert(a, b, ROOM, 0, number, whole) || !convert(a, b, size, (unsigned)(line / ROOM + line) % PLACES, &again, part))
+        return false;
+    if (*number == 0 && (memcmp(whole, part, common) != 0 || thalinguze_field(whole, THALINGUZE_CONVERSION_NUMBER) != 0))
+        return false;
+    return *number == again;
 }
 
 int main(void)
 {
     static struct label a, b;
-    unsigned long lines = 0;
-    while (scanf("%" SCNu32 " %2047s %" SCNu32 " %2047s", &a.notation, a.text, &b.notation, b.text) == 4) {
-        uint8_t whole[ROOM], record[ROOM];
+    first_arena = make_arena(LABEL_ROOM + 2 * GUARD);
+    second_arena = make_arena(LABEL_ROOM + 2 * GUARD);
+    record_arena = make_arena(ROOM + 2 * GUARD);
+    for (unsigned long line = 0; scanf("%" SCNu32 " %2047s %" SCNu32 " %2047s", &a.notation, a.text, &b.notation, b.text) == 4; line++) {
+        uint8_t record[THALINGUZE_CONVERSION_SIZE];
+        uint32_t number;
         if (!decode(&a) || !decode(&b))
             return 2;
-        uint32_t number = convert(&a, &b, whole, ROOM);
-        size_t size = lines++ % ROOM;
-        if (convert(&a, &b, record, size) != number || !right_buffer(number, whole, record, size) || !right_buffer(number, whole, whole, ROOM)) {
-            fprintf(stderr, "a wrong buffer of %zu bytes: %s to %s\n", size, a.text, b.text);
+        if (!answer(&a, &b, line, &number, record)) {
+            fprintf(stderr, "a wrong answer or buffer at line %lu: %s to %s\n", line + 1, a.text, b.text);
             return 1;
         }
-        if (number == 0 && thalinguze_field(whole, THALINGUZE_CONVERSION_NUMBER) != 0)
-            return 1;
         printf("%" PRIu32 " %s %" PRIu32 " %s %" PRIu32, a.notation, a.text, b.notation, b.text, number);
         if (number == 0)
-            printf(" %" PRId64 " %" PRId64 " %d\n", thalinguze_numerator(whole), thalinguze_denominator(whole), thalinguze_conversion_k(whole));
+            printf(" %" PRId64 " %" PRId64 " %d\n", thalinguze_numerator(record), thalinguze_denominator(record), thalinguze_conversion_k(record));
         else
             printf(" 0 1 0\n");
     }

@@ -79,19 +79,19 @@ names-sound : T (every sound names)
 unfolding every sound coded keyable told-by-bits all-below alike columns-compute
 names-sound = tt
 
-names-count : length names ≡ 67
+pub names-count : length names ≡ 67
 unfolding columns-compute
 names-count = refl
 
 -- what stands past the end
-nobody : Entry
+unfoldable pub nobody : Entry
 nobody = record { letters = []; known-in = []; unit = 0 }
 
 nobody-sound : T (sound nobody)
 unfolding sound coded nobody keyable told-by-bits all-below alike columns-compute
 nobody-sound = tt
 
-entry : ℕ → Entry
+unfoldable pub entry : ℕ → Entry
 entry i = getD names i nobody
 
 entry-sound : (i : ℕ) → T (sound (entry i))
@@ -99,7 +99,7 @@ unfolding entry
 entry-sound i = every-at sound names nobody names-sound nobody-sound i
 
 module _ (i : ℕ) where
-  letters-sound : T (keyable (entry i .letters))
+  pub letters-sound : T (keyable (entry i .letters))
   unfolding sound
   letters-sound = both (keyable (entry i .letters)) _ (entry-sound i) .0
 
@@ -113,7 +113,7 @@ module _ (i : ℕ) where
   unit-sound : entry i .unit ≤ 60
   unit-sound = leb→le (entry i .unit) 60 (both (told-by-bits (entry i .known-in)) _ set-sound .1)
 
-  code-sound : (name-code (entry i) / 65536 ≡ length (entry i .letters))
+  pub code-sound : (name-code (entry i) / 65536 ≡ length (entry i .letters))
       × ((name-code (entry i) / 256 % 256 ≡ bits (entry i .known-in)) × (name-code (entry i) % 256 ≡ entry i .unit))
   unfolding coded
   code-sound =
@@ -123,16 +123,16 @@ module _ (i : ℕ) where
 
   -- THE COLUMNS
 
-  key-at : getD name-keys i 0 ≡ key-of (entry i .letters)
+  pub key-at : getD name-keys i 0 ≡ key-of (entry i .letters)
   unfolding name-keys entry nobody key-from
   key-at = List·getD-map (λ (x : Entry). key-of (x .letters)) names i nobody
 
-  code-at : getD name-codes i 0 ≡ name-code (entry i)
+  pub code-at : getD name-codes i 0 ≡ name-code (entry i)
   unfolding name-codes entry nobody bits
   code-at = List·getD-map name-code names i nobody
 
   -- the bits of a name tell which notations know it
-  member-at : (n : ℕ) → has-bit n (bits (entry i .known-in)) ≡ member n (entry i .known-in)
+  pub member-at : (n : ℕ) → has-bit n (bits (entry i .known-in)) ≡ member n (entry i .known-in)
   member-at n = bit-member n (entry i .known-in) (both (told-by-bits (entry i .known-in)) _ set-sound .0)
 
   pub unit-room : {cs : List ℕ} → cs ≡ name-codes → getD cs i 0 % 256 ≤ 60

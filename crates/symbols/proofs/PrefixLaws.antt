@@ -36,14 +36,14 @@ unfolding columns-compute
 prefixes-count = refl
 
 -- what stands past the end
-nothing : Prefix
+unfoldable pub nothing : Prefix
 nothing = record { name = []; power = record { 0 = pos 0 } }
 
 nothing-keyed : T (has-key nothing)
 unfolding has-key nothing keyable columns-compute
 nothing-keyed = tt
 
-entry : ℕ → Prefix
+unfoldable pub entry : ℕ → Prefix
 entry i = getD prefixes i nothing
 
 module _ (i : ℕ) where
@@ -59,13 +59,13 @@ module _ (i : ℕ) where
   unfolding has-key
   code-keyed = both (keyable (entry i .name)) _ entry-keyed .1
 
-  code-length : prefix-code (entry i) / 65536 ≡ length (entry i .name)
+  pub code-length : prefix-code (entry i) / 65536 ≡ length (entry i .name)
   code-length = eqb-true _ _ (T→true _ (both (eqb (prefix-code (entry i) / 65536) (length (entry i .name))) _ code-keyed .0))
 
-  code-key : prefix-code (entry i) % 65536 ≡ key-of (entry i .name)
+  pub code-key : prefix-code (entry i) % 65536 ≡ key-of (entry i .name)
   code-key = eqb-true _ _ (T→true _ (both (eqb (prefix-code (entry i) / 65536) (length (entry i .name))) _ code-keyed .1))
 
-  code-at : getD prefix-codes i 0 ≡ prefix-code (entry i)
+  pub code-at : getD prefix-codes i 0 ≡ prefix-code (entry i)
   unfolding prefix-codes entry nothing key-from
   code-at = List·getD-map prefix-code prefixes i nothing
 

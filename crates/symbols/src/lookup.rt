@@ -28,7 +28,7 @@ const PREFIXES: usize = 20;
 const MOST_LETTERS: usize = 8;
 
 // Whether notation `n` knows a spelling by the name of that key and code.
-fn is_name(n: u8, size: usize, number: u64, key: u64, code: u32) -> bool
+pub fn is_name(n: u8, size: usize, number: u64, key: u64, code: u32) -> bool
     ensures { λ r. ⌜ r ≡ (agrees size number (code / 65536) key && has-bit n (code / 256 % 256)) ⌝ }
 {
     if same_symbol(size, number, (code / 65536) as usize, key) {

@@ -1,0 +1,81 @@
+-- Letters of a key, and letters compared one by one.
+use Prim.Native.Nat.{ℕ, zero, suc, _+_, _-_, _/_, _%_, _≤_, _<_}
+use native.Mathlib.Omega.{arith}
+use mathlib.Core.Path.{_≡_, refl, sym, ap, _∙_}
+use mathlib.Core.Bool.{Bool, true, false}
+use mathlib.Core.List.{List, [], _∷_, _++_}
+use lib.Dec.{eqb}
+use lib.ListN.{length, getD}
+use borrow.Author.Tests.{eq-eqb, ne-eqb}
+use Rattle.label.specs.Bytes.{same}
+use Rattle.label.specs.Ranges.{between}
+use Rattle.label.proofs.Basics.{same-is}
+use Rattle.symbols.proofs.Parts.{part-none, part-cons, part-length}
+use Rattle.rewriting.specs.Letters.{letters-of}
+
+-- A KEY'S LETTERS
+
+pub letters-none : (most k : ℕ) → most ≡ 0 → letters-of most k ≡ []
+unfolding letters-of
+letters-none most k e = rw e
+
+pub letters-end : (most k : ℕ) → k ≡ 0 → letters-of most k ≡ []
+unfolding letters-of
+letters-end zero k e = refl
+letters-end (suc f) k e = rw (eq-eqb k 0 e, letters-of)
+
+pub letters-more : (most k : ℕ) → (most ≡ 0 → ⊥) → (k ≡ 0 → ⊥) → letters-of most k ≡ letters-of (most - 1) (k / 256) ++ (k % 256 ∷ [])
+unfolding letters-of
+letters-more zero k z h = absurd (z refl)
+letters-more (suc f) k z h =
+    let e : suc f - 1 ≡ f = omega arith in
+    rw (e, ne-eqb k 0 h, letters-of)
+
+-- COMPARED ONE BY ONE
+
+-- before i and j the letters of s and of t are the same
+pub record Comparing (s : List ℕ) (start end : ℕ) (t : List ℕ) (from to i j : ℕ) : Type 0 where
+  pub before : i ≤ end
+  pub within : end ≤ length s
+  pub other-before : j ≤ to
+  pub other-within : to ≤ length t
+  pub level : end - i ≡ to - j
+  pub rest : same (between s start end) (between t from to) ≡ same (between s i end) (between t j to)
+
+pub compare-longer : (s : List ℕ) (start end : ℕ) (t : List ℕ) (from to : ℕ) → start ≤ end → end ≤ length s → from ≤ to → to ≤ length t → (end - start ≡ to - from → ⊥) → false ≡ same (between s start end) (between t from to)
+compare-longer s start end t from to a b c d h = go (same (between s start end) (between t from to)) refl
+  where
+    go : (x : Bool) → same (between s start end) (between t from to) ≡ x → false ≡ x
+    go true e = absurd (h (sym (part-length s start end a b) ∙ ap length (same-is (between s start end) (between t from to) e) ∙ part-length t from to c d))
+    go false e = refl
+
+module _ {s : List ℕ} {start end : ℕ} {t : List ℕ} {from to : ℕ} where
+  pub compare-start : start ≤ end → end ≤ length s → from ≤ to → to ≤ length t → end - start ≡ to - from → Comparing s start end t from to start from
+  compare-start a b c d e = record { before = a; within = b; other-before = c; other-within = d; level = e; rest = refl }
+
+  module _ {i j : ℕ} (w : Comparing s start end t from to i j) where
+    pub compare-all : end ≤ i → true ≡ same (between s start end) (between t from to)
+    unfolding same
+    compare-all h =
+        let a : i ≡ end = omega (arith, w .before) in
+        let b : j ≡ to = omega (arith, w .other-before, w .level) in
+        sym (w .rest ∙ rw (a, b, part-none s end, part-none t to))
+
+    module _ (h : i < end) where
+      first : same (between s i end) (between t j to) ≡ same (getD s i 0 ∷ between s (i + 1) end) (getD t j 0 ∷ between t (j + 1) to)
+      first = rw (part-cons s i end h (w .within), part-cons t j to (omega (arith, w .level)) (w .other-within))
+
+      pub compare-differ : (getD s i 0 ≡ getD t j 0 → ⊥) → false ≡ same (between s start end) (between t from to)
+      unfolding same
+      compare-differ d = sym (w .rest ∙ first ∙ rw (ne-eqb (getD s i 0) (getD t j 0) d))
+
+      pub compare-more : getD s i 0 ≡ getD t j 0 → Comparing s start end t from to (i + 1) (j + 1)
+      unfolding same
+      compare-more e = record {
+        before = omega arith;
+        within = w .within;
+        other-before = omega (arith, w .level);
+        other-within = w .other-within;
+        level = omega (arith, w .level);
+        rest = w .rest ∙ first ∙ rw (eq-eqb (getD s i 0) (getD t j 0) e);
+      }

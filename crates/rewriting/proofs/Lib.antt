@@ -1,0 +1,4 @@
+pub mod TextLaws
+pub mod NumberLaws
+pub mod LetterLaws
+pub mod PowerLaws

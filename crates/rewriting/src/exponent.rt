@@ -1,0 +1,167 @@
+// Exponents as they are written, in lowest terms.
+use crate::numbers::is_negative;
+use crate::numbers::magnitude;
+use crate::numbers::push_figures;
+use crate::numbers::push_sign;
+use crate::style::Style;
+use crate::text::push;
+use crate::text::push_stars;
+ghost use Prim.Native.Nat.{_≤_, _^_};
+ghost use mathlib.Core.Path.{_≡_};
+ghost use mathlib.Core.Bool.{false, _&&_};
+ghost use mathlib.Core.List.{_++_};
+ghost use mathlib.Core.Option.{some};
+ghost use lib.Dec.{eqb};
+ghost use lib.IntN.{pos};
+ghost use lib.ListN.{length};
+ghost use Rattle.label.specs.Choice.{pick};
+ghost use Rattle.label.specs.Limits.{denominator-of};
+ghost use Rattle.label.specs.Reading.{exponent as exponent-of};
+ghost use Rattle.label.specs.Writing.{figures, sign, whole-text, fraction-text, power-text, exponent-text};
+ghost use Rattle.rewriting.specs.Texts.{room, Writes};
+ghost use Rattle.rewriting.specs.Styles.{style-in};
+
+// The denominator in lowest terms of so many sixtieths: the first divisor of 60 that makes a whole number of them.
+fn denominator(sixtieths: u64) -> u64
+    requires { ⌜ sixtieths ≤ 2 ^ 31 ⌝ }
+    ensures { λ r. ⌜ (r ≡ denominator-of (pos sixtieths)) × (r ≤ 60) ⌝ }
+{
+    if sixtieths % 60 == 0 {
+        return 1;
+    }
+    if sixtieths * 2 % 60 == 0 {
+        return 2;
+    }
+    if sixtieths * 3 % 60 == 0 {
+        return 3;
+    }
+    if sixtieths * 4 % 60 == 0 {
+        return 4;
+    }
+    if sixtieths * 5 % 60 == 0 {
+        return 5;
+    }
+    if sixtieths * 6 % 60 == 0 {
+        return 6;
+    }
+    if sixtieths * 10 % 60 == 0 {
+        return 10;
+    }
+    if sixtieths * 12 % 60 == 0 {
+        return 12;
+    }
+    if sixtieths * 15 % 60 == 0 {
+        return 15;
+    }
+    if sixtieths * 20 % 60 == 0 {
+        return 20;
+    }
+    if sixtieths * 30 % 60 == 0 {
+        return 30;
+    }
+    60
+}
+
+// Writes an integer of at most 4 digits. It has a plus nowhere.
+fn push_integer(text: &mut [u8; 260], at: usize, negative: bool, n: u64) -> usize
+    requires { ⌜ length (now text) ≡ room ⌝ }
+    ensures { λ r. ⌜ Writes (now (text .entry)) at (some (sign false negative ++ figures n)) (now (text .exit)) r ⌝ }
+{
+    let digits = push_sign(text, at, false, negative);
+    push_figures(text, digits, 4, n)
+}
+
+// Whether a whole exponent has brackets.
+fn is_wrapped(style: Style, negative: bool) -> bool
+    ensures { λ r. ⌜ r ≡ (style .wrapped && negative) ⌝ }
+{
+    if style.wrapped {
+        return negative;
+    }
+    false
+}
+
+// Writes a whole exponent.
+fn push_whole(text: &mut [u8; 260], at: usize, style: Style, negative: bool, n: u64) -> usize
+    requires { ⌜ length (now text) ≡ room ⌝ }
+    ensures { λ r. ⌜ Writes (now (text .entry)) at (some (whole-text (style-in style) negative n)) (now (text .exit)) r ⌝ }
+{
+    let first = push_stars(text, at, style.stars);
+    if is_wrapped(style, negative) {
+        let sign = push(text, first, b'(');
+        let close = push_integer(text, sign, negative, n);
+        return push(text, close, b')');
+    }
+    push_integer(text, first, negative, n)
+}
+
+// Writes the fraction `n/d` as an exponent.
+fn push_fraction(
+    text: &mut [u8; 260],
+    at: usize,
+    style: Style,
+    negative: bool,
+    n: u64,
+    d: u64,
+) -> usize
+    requires { ⌜ length (now text) ≡ room ⌝ }
+    ensures { λ r. ⌜ Writes (now (text .entry)) at (some (fraction-text (style-in style) negative n d)) (now (text .exit)) r ⌝ }
+{
+    let first = push_stars(text, at, style.stars);
+    let sign = push(text, first, b'(');
+    let slash = push_integer(text, sign, negative, n);
+    let digits = push(text, slash, b'/');
+    let close = push_figures(text, digits, 4, d);
+    push(text, close, b')')
+}
+
+// Whether a whole exponent is 1.
+fn is_one(negative: bool, n: u64) -> bool
+    ensures { λ r. ⌜ r ≡ pick negative false (eqb n 1) ⌝ }
+{
+    if negative {
+        return false;
+    }
+    n == 1
+}
+
+// Writes the exponent `n/d`. 1 is omitted, and a fraction may have no form.
+fn push_power(
+    text: &mut [u8; 260],
+    at: usize,
+    style: Style,
+    negative: bool,
+    n: u64,
+    d: u64,
+) -> usize
+    requires { ⌜ length (now text) ≡ room ⌝ }
+    ensures { λ r. ⌜ Writes (now (text .entry)) at (power-text (style-in style) negative n d) (now (text .exit)) r ⌝ }
+{
+    if d != 1 {
+        if style.fractions {
+            return push_fraction(text, at, style, negative, n, d);
+        }
+        return 262;
+    }
+    if is_one(negative, n) {
+        return at;
+    }
+    push_whole(text, at, style, negative, n)
+}
+
+// Writes an exponent in sixtieths.
+pub fn push_exponent(text: &mut [u8; 260], at: usize, style: Style, exponent: i32) -> usize
+    requires { ⌜ length (now text) ≡ room ⌝ }
+    ensures { λ r. ⌜ Writes (now (text .entry)) at (exponent-text (style-in style) (exponent-of exponent)) (now (text .exit)) r ⌝ }
+{
+    let sixtieths = magnitude(exponent);
+    let d = denominator(sixtieths);
+    push_power(
+        text,
+        at,
+        style,
+        is_negative(exponent),
+        sixtieths * d / 60,
+        d,
+    )
+}

@@ -1,0 +1,53 @@
+// The factor as it is written.
+use crate::numbers::is_negative;
+use crate::numbers::magnitude;
+use crate::numbers::push_figures;
+use crate::numbers::push_sign;
+use crate::style::Style;
+use crate::text::push;
+use crate::text::push_stars;
+use label::Tens;
+ghost use mathlib.Core.Path.{_≡_};
+ghost use mathlib.Core.Option.{some};
+ghost use lib.ListN.{length};
+ghost use Rattle.label.specs.Bytes.{bytes};
+ghost use Rattle.label.specs.Choice.{pick};
+ghost use Rattle.label.specs.Writing.{factor-text};
+ghost use Rattle.rewriting.specs.Texts.{room, Writes};
+ghost use Rattle.rewriting.specs.Styles.{style-in};
+
+// Writes a space, or nothing.
+fn push_gap(text: &mut [u8; 260], at: usize, gap: bool) -> usize
+    requires { ⌜ length (now text) ≡ room ⌝ }
+    ensures { λ r. ⌜ Writes (now (text .entry)) at (some (pick gap (bytes " ") (bytes ""))) (now (text .exit)) r ⌝ }
+{
+    if gap {
+        return push(text, at, b' ');
+    }
+    at
+}
+
+// Writes 10, and two stars where k follows them.
+fn push_ten(text: &mut [u8; 260], at: usize, stars: bool) -> usize
+    requires { ⌜ length (now text) ≡ room ⌝ }
+    ensures { λ r. ⌜ Writes (now (text .entry)) at (some (pick stars (bytes "10**") (bytes "10"))) (now (text .exit)) r ⌝ }
+{
+    let second = push(text, at, b'1');
+    let third = push(text, second, b'0');
+    push_stars(text, third, stars)
+}
+
+// Writes ten to the k, or nothing where k is 0.
+pub fn push_factor(text: &mut [u8; 260], at: usize, style: Style, k: Tens) -> usize
+    requires { ⌜ length (now text) ≡ room ⌝ }
+    ensures { λ r. ⌜ Writes (now (text .entry)) at (some (factor-text (style-in style) k)) (now (text .exit)) r ⌝ }
+{
+    let size = magnitude(k.0);
+    if size == 0 {
+        return at;
+    }
+    let sign = push_ten(text, at, style.ten_stars);
+    let digits = push_sign(text, sign, style.signed, is_negative(k.0));
+    let gap = push_figures(text, digits, 4, size);
+    push_gap(text, gap, style.gap)
+}

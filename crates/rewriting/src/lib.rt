@@ -1,0 +1,7 @@
+// Rewriting: the text that a notation writes for what was read in another, in a lent buffer.
+pub mod exponent;
+pub mod factor;
+pub mod letters;
+pub mod numbers;
+pub mod style;
+pub mod text;

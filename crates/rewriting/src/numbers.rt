@@ -1,0 +1,57 @@
+// Numbers as they are written: signs and digits.
+use crate::text::push;
+ghost use Prim.Native.Nat.{ℕ, _≤_, _^_};
+ghost use mathlib.Core.Path.{_≡_};
+ghost use mathlib.Core.List.{[]};
+ghost use mathlib.Core.Option.{some};
+ghost use lib.IntN.{natAbs};
+ghost use lib.ListN.{length};
+ghost use Rattle.label.specs.Limits.{negative};
+ghost use Rattle.label.specs.Writing.{figures-before, sign};
+ghost use Rattle.rewriting.specs.Texts.{room, Writes};
+
+// A number without its sign.
+pub fn magnitude(z: i32) -> u64
+    ensures { λ r. ⌜ (r ≡ natAbs z) × (r ≤ 2 ^ 31) ⌝ }
+{
+    if z < 0 {
+        return (-1 - z) as u64 + 1;
+    }
+    z as u64
+}
+
+// Whether a number is below 0.
+pub fn is_negative(z: i32) -> bool
+    ensures { λ r. ⌜ r ≡ negative z ⌝ }
+{
+    z < 0
+}
+
+// Writes the sign of a number; a plus only where it is asked for.
+pub fn push_sign(text: &mut [u8; 260], at: usize, plussed: bool, negative: bool) -> usize
+    requires { ⌜ length (now text) ≡ room ⌝ }
+    ensures { λ r. ⌜ Writes (now (text .entry)) at (some (sign plussed negative)) (now (text .exit)) r ⌝ }
+{
+    if negative {
+        return push(text, at, b'-');
+    }
+    if plussed {
+        return push(text, at, b'+');
+    }
+    at
+}
+
+// Writes the last `most` digits of a number, or all of them where it has fewer.
+pub fn push_figures(text: &mut [u8; 260], at: usize, most: u8, n: u64) -> usize
+    requires { ⌜ length (now text) ≡ room ⌝ }
+    ensures { λ r. ⌜ Writes (now (text .entry)) at (some (figures-before most n [])) (now (text .exit)) r ⌝ }
+{
+    if most == 0 {
+        return at;
+    }
+    if n < 10 {
+        return push(text, at, b'0' + n as u8);
+    }
+    let last = push_figures(text, at, most - 1, n / 10);
+    push(text, last, b'0' + (n % 10) as u8)
+}

@@ -2,3 +2,5 @@ pub mod TextLaws
 pub mod NumberLaws
 pub mod LetterLaws
 pub mod PowerLaws
+pub mod NameTable
+pub mod UnitTexts

@@ -1,3 +1,5 @@
 pub mod Texts
 pub mod Styles
 pub mod Letters
+pub mod Names
+pub mod Units

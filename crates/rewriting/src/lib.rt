@@ -2,6 +2,8 @@
 pub mod exponent;
 pub mod factor;
 pub mod letters;
+pub mod name;
 pub mod numbers;
 pub mod style;
 pub mod text;
+pub mod unit;

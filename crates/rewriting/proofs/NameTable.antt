@@ -1,0 +1,349 @@
+-- The table of names: letters from keys, own names, the names of a unit as a part of the table.
+use Prim.Native.Nat.{ℕ, zero, suc, _+_, _-_, _/_, _%_, _≤_, _<_}
+use native.Mathlib.Omega.{arith}
+use native.Mathlib.Numerals.{add-one}
+use mathlib.Core.Path.{_≡_, refl, sym, ap, _∙_}
+use mathlib.Core.Bool.{Bool, true, false, _&&_, _||_}
+use mathlib.Core.List.{List, [], _∷_, _++_, map, append-assoc}
+use mathlib.Core.Option.{Option, none, some}
+use lib.Dec.{T, leb, eqb, leb→le}
+use lib.IntN.{pos}
+use lib.ListN.{length, take, drop, getD, length-append, List·getD-eq-default}
+use lib.Seq.{drop-cons, drop-at, take-at}
+use borrow.Author.Tests.{ne-eqb, leb-true, leb-false}
+use Rattle.label.proofs.Basics.{none-some, both, T→true, same-is, and-left, and-right, all-below, at-below}
+use Rattle.label.specs.Bytes.{same}
+use Rattle.label.specs.Choice.{pick}
+use Rattle.label.specs.Notations.{member}
+use Rattle.label.specs.Ranges.{between}
+use Rattle.label.specs.Prefixes.{Prefix, prefixes}
+use Rattle.label.specs.Units.{Name, KnownUnit, bare, ten-to, units, unit-at}
+use Rattle.label.specs.Symbols.{has-name}
+use Rattle.label.specs.Writing.{name-among, name-in, prefix-letters}
+use Rattle.symbols.specs.Keys.{most-letters, key-from, key-of, agrees}
+use Rattle.symbols.specs.Sets.{has-bit}
+use Rattle.symbols.specs.Names.{Entry, entries-of, entries-from, names}
+use Rattle.symbols.specs.Columns.{name-keys, name-codes, prefix-codes, NameColumns}
+use Rattle.symbols.specs.Views.{place}
+use Rattle.symbols.proofs.Computing.{columns-compute}
+use Rattle.symbols.proofs.RowLaws.{every, every-at}
+use Rattle.symbols.proofs.KeyLaws.{keyable, long-other, Spelled, agrees-spelled}
+use Rattle.symbols.proofs.NameLaws as laws
+use Rattle.symbols.proofs.PrefixLaws as prefix-laws
+use Rattle.rewriting.specs.declared.name.Span.{Span}
+use Rattle.rewriting.specs.declared.name.Own.{Own}
+use Rattle.rewriting.specs.Letters.{letters-of}
+use Rattle.rewriting.specs.Names.{most-names, entry, is-named, name-of, names-in, name-at, places-from, first-places, Few, NamesOf, OwnOf}
+use Rattle.rewriting.specs.Units.{PrefixCode}
+
+entry-is : (i : ℕ) → laws.entry i ≡ entry i
+unfolding entry laws.entry laws.nobody
+entry-is i = refl
+
+-- LETTERS FROM KEYS
+
+spelt : Entry → Bool
+spelt x = same (letters-of 8 (key-of (x .letters))) (x .letters) && leb (length (x .letters)) 8
+
+names-spelt : T (every spelt names)
+unfolding every spelt letters-of columns-compute
+names-spelt = tt
+
+nobody-spelt : T (spelt laws.nobody)
+unfolding spelt letters-of laws.nobody columns-compute
+nobody-spelt = tt
+
+entry-spelt : (i : ℕ) → T (spelt (laws.entry i))
+unfolding laws.entry
+entry-spelt i = every-at spelt names laws.nobody names-spelt nobody-spelt i
+
+pub name-letters : (i : ℕ) → letters-of 8 (getD name-keys i 0) ≡ entry i .letters
+unfolding spelt
+name-letters i =
+    let w = both (same (letters-of 8 (key-of (laws.entry i .letters))) (laws.entry i .letters)) _ (entry-spelt i) in
+    rw (laws.key-at i) (same-is _ _ (T→true _ (w .0)) ∙ ap (λ (x : Entry). x .letters) (entry-is i))
+
+pub name-short : (i : ℕ) → length (entry i .letters) ≤ 8
+unfolding spelt
+name-short i =
+    let w = both (same (letters-of 8 (key-of (laws.entry i .letters))) (laws.entry i .letters)) _ (entry-spelt i) in
+    rw (← entry-is i) (leb→le _ 8 (w .1))
+
+-- OWN NAMES
+
+pub own-spelled : {l : List ℕ} {size number : ℕ} → Spelled l size number → OwnOf l (record { size = size; number = number })
+own-spelled w = record { agree = λ i. rw (← entry-is i) (agrees-spelled w (laws.entry i .letters) (laws.letters-sound i)) }
+
+and-false : (b : Bool) → (b && false) ≡ false
+and-false true = refl
+and-false false = refl
+
+-- more letters than a name has
+pub own-long : (l : List ℕ) (size : ℕ) → length l ≡ size → most-letters < size → OwnOf l (record { size = size; number = 0 })
+own-long l size e h = record { agree = λ i. go i (name-short i) }
+  where
+    go : (i : ℕ) → length (entry i .letters) ≤ 8 → agrees size 0 (length (entry i .letters)) (key-of (entry i .letters)) ≡ same l (entry i .letters)
+    go i s =
+        rw (ne-eqb size (length (entry i .letters)) (λ q. omega arith), and-false)
+        (sym (long-other l (entry i .letters) (omega arith) (rw (← entry-is i) (laws.letters-sound i))))
+
+-- no letters
+pub own-empty : (s : List ℕ) (a e : ℕ) → e ≤ a → OwnOf (between s a e) (record { size = 0; number = 0 })
+unfolding key-from
+own-empty s a e h =
+    let q : e - a ≡ 0 = omega arith in
+    rw q (own-spelled (record { bytes = λ i. omega arith; size-is = refl; number-is = refl }))
+
+pub is-own : {ks cs l : List ℕ} {x : Own} (n i : ℕ) → NameColumns ks cs → OwnOf l x
+    → (agrees (x .size) (x .number) (getD cs i 0 / 65536) (getD ks i 0) && has-bit n (getD cs i 0 / 256 % 256)) ≡ is-named n l (name-of (entry i))
+is-own n i w o =
+    rw (w .keys-are, w .codes-are, laws.key-at i, laws.code-at i, laws.code-sound i .0, laws.code-sound i .1 .0, entry-is i, o .agree i, ← entry-is i, laws.member-at i n)
+
+pub is-known : {cs : List ℕ} (n i : ℕ) → cs ≡ name-codes → has-bit n (getD cs i 0 / 256 % 256) ≡ member n (entry i .known-in)
+is-known n i e = rw (e, laws.code-at i, laws.code-sound i .1 .0, ← entry-is i, laws.member-at i n)
+
+-- A PART OF THE TABLE
+
+module _ {x : Span} (w : Few x) where
+  pub no-names : x .end ≤ x .first → names-in x ≡ []
+  unfolding names-in
+  no-names h = let e : x .end - x .first ≡ 0 = omega arith in rw e
+
+  pub first-name : x .first < x .end → x .end ≤ x .first + 1 → names-in x ≡ name-of (entry (x .first)) ∷ []
+  unfolding names-in entry laws.nobody
+  first-name h g =
+      let e : x .end - x .first ≡ 1 = omega arith in
+      rw (e, drop-cons names (x .first) laws.nobody (omega (arith, laws.names-count, w .within)))
+
+  pub two-names : x .first + 1 < x .end → names-in x ≡ name-of (entry (x .first)) ∷ name-of (entry (x .first + 1)) ∷ []
+  unfolding names-in entry laws.nobody
+  two-names h =
+      let e : x .end - x .first ≡ 2 = omega (arith, w .few) in
+      rw (
+        e,
+        drop-cons names (x .first) laws.nobody (omega (arith, laws.names-count, w .within)),
+        drop-cons names (suc (x .first)) laws.nobody (omega (arith, laws.names-count, w .within)),
+        add-one (x .first),
+      )
+
+  pub some-names : x .first < x .end → (ys : List Name) × (names-in x ≡ name-of (entry (x .first)) ∷ ys)
+  some-names h = go (leb (x .end) (x .first + 1)) refl
+    where
+      go : (b : Bool) → leb (x .end) (x .first + 1) ≡ b → (ys : List Name) × (names-in x ≡ name-of (entry (x .first)) ∷ ys)
+      go true e = ([], first-name h (leb-true (x .end) (x .first + 1) e))
+      go false e = (name-of (entry (x .first + 1)) ∷ [], two-names (leb-false (x .end) (x .first + 1) e))
+
+-- WHICH NAME IS TAKEN
+
+letters-own : (n i : ℕ) (l : List ℕ) → is-named n l (name-of (entry i)) ≡ true → some (entry i .letters) ≡ some l
+letters-own n i l e = ap (λ (s : List ℕ). some s) (sym (same-is l (entry i .letters) (and-left (same l (entry i .letters)) _ e)))
+
+module _ (n : ℕ) (l : List ℕ) {x : Span} (w : Few x) where
+  pub own-no : x .end ≤ x .first → name-at 0 ≡ pick (has-name n l (names-in x)) (some l) none
+  unfolding name-at has-name
+  own-no h = rw (no-names w h)
+
+  pub own-first : x .first < x .end → is-named n l (name-of (entry (x .first))) ≡ true → name-at (x .first + 1) ≡ pick (has-name n l (names-in x)) (some l) none
+  unfolding name-at has-name
+  own-first h f = rw (some-names w h .1, f, add-one (x .first)) (letters-own n (x .first) l f)
+
+  pub own-not-one : x .first < x .end → x .end ≤ x .first + 1 → is-named n l (name-of (entry (x .first))) ≡ false
+      → name-at 0 ≡ pick (has-name n l (names-in x)) (some l) none
+  unfolding name-at has-name
+  own-not-one h g f = rw (first-name w h g, f)
+
+  module _ (h : x .first + 1 < x .end) (f : is-named n l (name-of (entry (x .first))) ≡ false) where
+    pub own-second : is-named n l (name-of (entry (x .first + 1))) ≡ true → name-at (x .first + 1 + 1) ≡ pick (has-name n l (names-in x)) (some l) none
+    unfolding name-at has-name
+    own-second g = rw (two-names w h, f, g, add-one (x .first + 1)) (letters-own n (x .first + 1) l g)
+
+    pub own-not-two : is-named n l (name-of (entry (x .first + 1))) ≡ false → name-at 0 ≡ pick (has-name n l (names-in x)) (some l) none
+    unfolding name-at has-name
+    own-not-two g = rw (two-names w h, f, g)
+
+among-this : (n : ℕ) (y : Name) (ys : List Name) → member n (y .known-in) ≡ true → name-among n (y ∷ ys) ≡ some (y .letters)
+unfolding name-among
+among-this n y ys e = rw (e, name-among)
+
+among-later : (n : ℕ) (y : Name) (ys : List Name) → member n (y .known-in) ≡ false → name-among n (y ∷ ys) ≡ name-among n ys
+unfolding name-among
+among-later n y ys e = rw (e, name-among)
+
+among-none : (n : ℕ) → name-among n [] ≡ none
+unfolding name-among
+among-none n = refl
+
+module _ (n : ℕ) {x : Span} (w : Few x) where
+  pub known-no : x .end ≤ x .first → (name-at 0 ≡ name-among n (names-in x)) × (0 ≤ most-names)
+  unfolding name-at name-among
+  known-no h = (rw (no-names w h), omega arith)
+
+  pub known-first : x .first < x .end → member n (entry (x .first) .known-in) ≡ true → (name-at (x .first + 1) ≡ name-among n (names-in x)) × (x .first + 1 ≤ most-names)
+  unfolding name-at
+  known-first h f = (rw (some-names w h .1, add-one (x .first)) (sym (among-this n (name-of (entry (x .first))) _ f)), omega (arith, w .within))
+
+  pub known-not-one : x .first < x .end → x .end ≤ x .first + 1 → member n (entry (x .first) .known-in) ≡ false
+      → (name-at 0 ≡ name-among n (names-in x)) × (0 ≤ most-names)
+  unfolding name-at
+  known-not-one h g f = (rw (first-name w h g) (sym (among-later n (name-of (entry (x .first))) [] f ∙ among-none n)), omega arith)
+
+  module _ (h : x .first + 1 < x .end) (f : member n (entry (x .first) .known-in) ≡ false) where
+    pub known-second : member n (entry (x .first + 1) .known-in) ≡ true → (name-at (x .first + 1 + 1) ≡ name-among n (names-in x)) × (x .first + 1 + 1 ≤ most-names)
+    unfolding name-at
+    known-second g =
+        (rw (two-names w h, add-one (x .first + 1)) (sym (among-later n (name-of (entry (x .first))) _ f ∙ among-this n (name-of (entry (x .first + 1))) [] g)), omega (arith, w .within))
+
+    pub known-not-two : member n (entry (x .first + 1) .known-in) ≡ false → (name-at 0 ≡ name-among n (names-in x)) × (0 ≤ most-names)
+    unfolding name-at
+    known-not-two g =
+        (rw (two-names w h) (sym (among-later n (name-of (entry (x .first))) _ f ∙ among-later n (name-of (entry (x .first + 1))) [] g ∙ among-none n)), omega arith)
+
+module _ (n : ℕ) (l : List ℕ) (xs : List Name) where
+  -- its own name, where there is a place
+  pub takes-own : (r : ℕ) → 0 < r → name-at r ≡ pick (has-name n l xs) (some l) none → name-at r ≡ name-in n l xs
+  unfolding name-in name-at
+  takes-own zero h p = absurd (omega arith)
+  takes-own (suc i) h p = go (has-name n l xs) p
+    where
+      go : (b : Bool) → some (entry i .letters) ≡ pick b (some l) none → some (entry i .letters) ≡ pick b (some l) (name-among n xs)
+      go true e = e
+      go false e = absurd (none-some (sym e))
+
+  -- or else another
+  pub takes-other : (r q : ℕ) → r ≤ 0 → name-at r ≡ pick (has-name n l xs) (some l) none → name-at q ≡ name-among n xs → name-at q ≡ name-in n l xs
+  unfolding name-in name-at
+  takes-other zero q h p e = go (has-name n l xs) p
+    where
+      go : (b : Bool) → none ≡ pick b (some l) none → name-at q ≡ pick b (some l) (name-among n xs)
+      go true f = absurd (none-some f)
+      go false f = e
+  takes-other (suc r) q h p e = absurd (omega arith)
+
+-- THE NAMES OF A UNIT
+
+abbrev no-unit : KnownUnit
+no-unit = bare [] (ten-to (pos 0) [])
+
+entries-length : (i : ℕ) (xs : List Name) → length (entries-of i xs) ≡ length xs
+unfolding entries-of
+entries-length i [] = refl
+entries-length i (x ∷ xs) = ap suc (entries-length i xs)
+
+entries-names : (i : ℕ) (xs : List Name) → map name-of (entries-of i xs) ≡ xs
+unfolding entries-of
+entries-names i [] = refl
+entries-names i (x ∷ xs) = ap (λ (ys : List Name). x ∷ ys) (entries-names i xs)
+
+head-place : (j : ℕ) (us : List KnownUnit) → getD (places-from j us) 0 0 ≡ j
+unfolding places-from
+head-place j [] = refl
+head-place j (u ∷ us) = refl
+
+part-of : (us : List KnownUnit) (i j : ℕ) (before : List Entry) (u : ℕ) → length before ≡ j → u < length us
+    → take (getD (places-from j us) (suc u) 0 - getD (places-from j us) u 0) (drop (getD (places-from j us) u 0) (before ++ entries-from i us))
+    ≡ entries-of (i + u) (getD us u no-unit .names)
+unfolding places-from entries-from
+part-of [] i j before u e h = absurd (omega arith)
+part-of (x ∷ xs) i j before zero e h =
+    let n : getD (places-from (j + length (x .names)) xs) 0 0 - j ≡ length (x .names) = omega (arith, head-place (j + length (x .names)) xs) in
+    let z : i + 0 ≡ i = omega arith in
+    rw (n, z, drop-at before (entries-of i (x .names) ++ entries-from (suc i) xs) j e)
+    (take-at (entries-of i (x .names)) (entries-from (suc i) xs) (length (x .names)) (entries-length i (x .names)))
+part-of (x ∷ xs) i j before (suc u) e h =
+    let z : i + suc u ≡ suc i + u = omega arith in
+    let m : length (before ++ entries-of i (x .names)) ≡ j + length (x .names) = length-append before (entries-of i (x .names)) ∙ rw (e, entries-length i (x .names)) in
+    rw (z, ← append-assoc before (entries-of i (x .names)) (entries-from (suc i) xs))
+    (part-of xs (suc i) (j + length (x .names)) (before ++ entries-of i (x .names)) u m (omega arith))
+
+-- a row's part of the table of names
+place-at : ℕ → ℕ
+place-at u = getD first-places u 0
+
+short-part : ℕ → Bool
+short-part u = leb (place-at u) (place-at (suc u)) && (leb (place-at (suc u)) 67 && leb (place-at (suc u)) (place-at u + 2))
+
+short-parts : all-below short-part 61 ≡ true
+unfolding all-below short-part place-at places-from first-places columns-compute
+short-parts = refl
+
+units-count : length units ≡ 61
+unfolding columns-compute
+units-count = refl
+
+module _ (u : ℕ) (h : u ≤ 60) where
+  part-few : Few (record { first = place-at u; end = place-at (suc u) })
+  unfolding short-part
+  part-few =
+      let a = at-below short-part 61 short-parts u (omega arith) in
+      let b = and-right (leb (place-at u) (place-at (suc u))) _ a in
+      record {
+        forward = leb-true _ _ (and-left (leb (place-at u) (place-at (suc u))) _ a);
+        within = leb-true _ _ (and-left (leb (place-at (suc u)) 67) _ b);
+        few = leb-true _ _ (and-right (leb (place-at (suc u)) 67) _ b);
+      }
+
+  part-names : names-in (record { first = place-at u; end = place-at (suc u) }) ≡ unit-at u .names
+  unfolding names-in place-at first-places names
+  part-names = ap (λ (es : List Entry). map name-of es) (part-of units 0 0 [] u refl (omega (arith, units-count))) ∙ entries-names (0 + u) (unit-at u .names)
+
+  pub unit-names : (first end : ℕ) → first ≡ getD first-places u 0 → end ≡ getD first-places (u + 1) 0 → NamesOf u (record { first = first; end = end })
+  unfolding place-at
+  unit-names first end e f =
+      let g : end ≡ getD first-places (suc u) 0 = f ∙ ap (λ (i : ℕ). getD first-places i 0) (add-one u) in
+      rw (e, g) (record { part = part-few; are = part-names })
+
+pub no-unit-names : (u : ℕ) → 60 < u → NamesOf u (record { first = 0; end = 0 })
+unfolding names-in
+no-unit-names u h = record {
+  part = record { forward = omega arith; within = omega arith; few = omega arith };
+  are = let e : unit-at u ≡ no-unit = List·getD-eq-default units no-unit (omega (arith, units-count)) in rw e;
+}
+
+pub first-count : length first-places ≡ 62
+unfolding places-from first-places columns-compute
+first-count = refl
+
+-- PREFIXES
+
+prefix-spelt : Prefix → Bool
+prefix-spelt p = same (letters-of 2 (key-of (p .name))) (p .name) && leb (length (p .name)) 2
+
+prefixes-spelt : T (every prefix-spelt prefixes)
+unfolding every prefix-spelt letters-of columns-compute
+prefixes-spelt = tt
+
+nothing-spelt : T (prefix-spelt prefix-laws.nothing)
+unfolding prefix-spelt letters-of prefix-laws.nothing columns-compute
+nothing-spelt = tt
+
+module _ (i : ℕ) where
+  here-spelt : T (prefix-spelt (prefix-laws.entry i))
+  unfolding prefix-laws.entry
+  here-spelt = every-at prefix-spelt prefixes prefix-laws.nothing prefixes-spelt nothing-spelt i
+
+  letters-are : prefix-letters (some i) ≡ prefix-laws.entry i .name
+  unfolding prefix-laws.entry prefix-laws.nothing columns-compute
+  letters-are = refl
+
+  code-of : PrefixCode (suc i) (getD prefix-codes i 0)
+  unfolding prefix-spelt place
+  code-of =
+      let w = both (same (letters-of 2 (key-of (prefix-laws.entry i .name))) (prefix-laws.entry i .name)) _ here-spelt in
+      rw (prefix-laws.code-at i) (record {
+        size = prefix-laws.code-length i ∙ ap length (sym letters-are);
+        letters = rw (prefix-laws.code-key i) (same-is _ _ (T→true _ (w .0)) ∙ sym letters-are);
+        few = rw (prefix-laws.code-length i) (leb→le _ 2 (w .1));
+      })
+
+-- the code in the column
+pub prefix-coded : (p : ℕ) → (p ≡ 0 → ⊥) → {cs : List ℕ} → cs ≡ prefix-codes → PrefixCode p (getD cs (p - 1) 0)
+prefix-coded zero h e = absurd (h refl)
+prefix-coded (suc i) h e = let q : suc i - 1 ≡ i = omega arith in rw (e, q) (code-of i)
+
+-- past the end of the column
+pub prefix-uncoded : (p : ℕ) → (p ≡ 0 → ⊥) → {cs : List ℕ} → cs ≡ prefix-codes → length cs ≤ p - 1 → PrefixCode p 0
+prefix-uncoded p h {cs} e g = rw (List·getD-eq-default cs 0 {n = p - 1} g) at (prefix-coded p h e)
+
+pub no-prefix : (p : ℕ) → p ≡ 0 → PrefixCode p 0
+unfolding letters-of place
+no-prefix p e = rw e (record { size = refl; letters = refl; few = omega arith })

@@ -1,0 +1,215 @@
+// The name that a known unit takes in the target.
+use symbols::lookup::is_name;
+use symbols::spelling::has_notation;
+use symbols::spelling::key;
+ghost use Prim.Native.Nat.{ℕ, _≤_, _<_};
+ghost use mathlib.Core.Path.{_≡_};
+ghost use mathlib.Core.List.{List};
+ghost use mathlib.Core.Option.{none, some};
+ghost use lib.ListN.{length, getD};
+ghost use Rattle.label.specs.Choice.{pick};
+ghost use Rattle.label.specs.Notations.{member};
+ghost use Rattle.label.specs.Ranges.{between};
+ghost use Rattle.label.specs.Symbols.{has-name};
+ghost use Rattle.label.specs.Writing.{name-among, name-in};
+ghost use Rattle.symbols.specs.Columns.{name-codes, NameColumns};
+ghost use Rattle.rewriting.specs.Names.{most-names, entry, name-of, is-named, names-in, name-at, first-places, Few, NamesOf, OwnOf};
+
+// Where the names of a unit start and end in the table of names.
+pub struct Span {
+    pub first: usize,
+    pub end: usize,
+}
+
+// Letters: how many, and their key. More letters than a name has have the key 0.
+pub struct Own {
+    pub size: usize,
+    pub number: u64,
+}
+
+// The place of each unit's first name in the table of names, and where the last unit's names end.
+const FIRSTS: [u8; 62] = [
+    0, // m
+    1, // g
+    2, // s
+    3, // A
+    4, // K
+    5, // mol
+    6, // cd
+    7, // rad
+    8, // sr
+    9, // Hz
+    10, // N
+    11, // Pa
+    12, // J
+    13, // W
+    14, // C
+    15, // V
+    16, // S
+    17, // F
+    18, // Wb
+    19, // T
+    20, // H
+    21, // lm
+    22, // lx
+    23, // min
+    24, // h
+    25, // d
+    26, // yr, a
+    28, // deg
+    29, // arcmin
+    30, // arcsec
+    31, // AU
+    32, // pc
+    33, // eV
+    34, // Jy
+    35, // barn
+    36, // mag
+    37, // byte
+    38, // mas
+    39, // pixel, pix
+    41, // count, ct
+    43, // Ry
+    44, // solMass
+    45, // solLum
+    46, // solRad
+    47, // D
+    48, // Sun
+    49, // bit
+    50, // ohm, Ohm
+    52, // erg
+    53, // G
+    54, // lyr
+    55, // photon, ph
+    57, // chan
+    58, // bin
+    59, // voxel
+    60, // u
+    61, // R
+    62, // adu
+    63, // beam
+    64, // angstrom, Angstrom
+    66, // %
+    67,
+];
+
+pub fn firsts() -> [u8; 62]
+    ensures { λ r. ⌜ r ≡ first-places ⌝ }
+{
+    FIRSTS
+}
+
+// The number at `i`.
+fn first_at(firsts: &[u8], i: usize) -> u8
+    requires { ⌜ (now firsts ≡ first-places) × (i < 62) ⌝ }
+    ensures { λ r. ⌜ r ≡ getD first-places i 0 ⌝ }
+{
+    firsts[i]
+}
+
+// The names of the unit of that row.
+pub fn names_of(firsts: &[u8], unit: u8) -> Span
+    requires { ⌜ now firsts ≡ first-places ⌝ }
+    ensures { λ r. ⌜ NamesOf unit r ⌝ }
+{
+    let i = unit as usize;
+    if 60 < i {
+        return Span { first: 0, end: 0 };
+    }
+    let first = first_at(firsts, i) as usize;
+    let end = first_at(firsts, i + 1) as usize;
+    Span { first, end }
+}
+
+// The letters of `s` from `start` up to `end`.
+pub fn letters_in(s: &[u8], start: usize, end: usize) -> Own
+    requires { ⌜ end ≤ length (now s) ⌝ }
+    ensures { λ r. ⌜ OwnOf (between (now (s .entry)) start end) r ⌝ }
+{
+    if end <= start {
+        return Own { size: 0, number: 0 };
+    }
+    let size = end - start;
+    if 8 < size {
+        return Own { size, number: 0 };
+    }
+    let number = key(s, start, end);
+    Own { size, number }
+}
+
+// Whether name `i` has those letters and notation `n` knows it.
+fn is_own(keys: &[u64], codes: &[u32], n: u8, i: usize, own: Own) -> bool
+    requires { ⌜ NameColumns (now keys) (now codes) × (i < most-names) ⌝ }
+    ensures { λ r. ⌜ ((l : List ℕ) → OwnOf l own → r ≡ is-named n l (name-of (entry i))) ⌝ }
+{
+    is_name(n, own.size, own.number, keys[i], codes[i])
+}
+
+// Whether notation `n` knows name `i`.
+fn is_known(codes: &[u32], n: u8, i: usize) -> bool
+    requires { ⌜ (now codes ≡ name-codes) × (i < most-names) ⌝ }
+    ensures { λ r. ⌜ r ≡ member n (entry i .known-in) ⌝ }
+{
+    let code = codes[i];
+    has_notation(n, (code / 256 % 256) as u8)
+}
+
+// One more than the place of the name of these that has those letters and that notation `n` knows, or 0.
+fn own_place(keys: &[u64], codes: &[u32], n: u8, names: Span, own: Own) -> usize
+    requires { ⌜ NameColumns (now keys) (now codes) × Few names ⌝ }
+    ensures { λ r. ⌜ ((l : List ℕ) → OwnOf l own → name-at r ≡ pick (has-name n l (names-in names)) (some l) none) ⌝ }
+    ensures { λ r. ⌜ r ≤ most-names ⌝ }
+{
+    let first = names.first;
+    let end = names.end;
+    if end <= first {
+        return 0;
+    }
+    if is_own(keys, codes, n, first, own) {
+        return first + 1;
+    }
+    let second = first + 1;
+    if end <= second {
+        return 0;
+    }
+    if is_own(keys, codes, n, second, own) {
+        return second + 1;
+    }
+    0
+}
+
+// One more than the place of the first of these names that notation `n` knows, or 0.
+fn first_known(codes: &[u32], n: u8, names: Span) -> usize
+    requires { ⌜ (now codes ≡ name-codes) × Few names ⌝ }
+    ensures { λ r. ⌜ (name-at r ≡ name-among n (names-in names)) × (r ≤ most-names) ⌝ }
+{
+    let first = names.first;
+    let end = names.end;
+    if end <= first {
+        return 0;
+    }
+    if is_known(codes, n, first) {
+        return first + 1;
+    }
+    let second = first + 1;
+    if end <= second {
+        return 0;
+    }
+    if is_known(codes, n, second) {
+        return second + 1;
+    }
+    0
+}
+
+// One more than the place of the name of these that a unit takes in notation `n`: its own, or the first that is known there, or 0.
+pub fn name_in(keys: &[u64], codes: &[u32], n: u8, names: Span, own: Own) -> usize
+    requires { ⌜ NameColumns (now keys) (now codes) × Few names ⌝ }
+    ensures { λ r. ⌜ ((l : List ℕ) → OwnOf l own → name-at r ≡ name-in n l (names-in names)) ⌝ }
+    ensures { λ r. ⌜ r ≤ most-names ⌝ }
+{
+    let place = own_place(keys, codes, n, names, own);
+    if 0 < place {
+        return place;
+    }
+    first_known(codes, n, names)
+}

@@ -6,7 +6,7 @@ use mathlib.Core.Bool.{Bool, true, false, _&&_}
 use mathlib.Core.List.{List, [], _∷_, _++_}
 use mathlib.Core.Option.{Option, none, some}
 use lib.Dec.{eqb}
-use lib.ListN.{length, take, length-append}
+use lib.ListN.{length, getD, length-append}
 use borrow.Author.Tests.{eq-eqb, ne-eqb}
 use Rattle.label.proofs.Basics.{none-some, false-true}
 use Rattle.label.specs.Bytes.{same}
@@ -17,13 +17,15 @@ use Rattle.label.specs.Symbols as spec
 use Rattle.label.specs.Units.{unit-at}
 use Rattle.label.specs.Writing.{Style, prefix-letters, same-prefix, same-symbol, reads-as, name-in, named-text, in-quotes, unknown-text, symbol-text, both-texts}
 use Rattle.symbols.specs.declared.Symbol.{Symbol}
+use Rattle.symbols.specs.Columns.{name-keys}
 use Rattle.symbols.specs.Views.{place, symbol-in}
 use Rattle.symbols.proofs.Parts.{part-length}
 use Rattle.rewriting.specs.Texts.{room, formless, Holds, Writes}
+use Rattle.rewriting.specs.Letters.{letters-of}
 use Rattle.rewriting.specs.Names.{name-at, entry}
 use Rattle.rewriting.specs.Units.{PrefixCode, Lettered, plain-text, Takes}
 use Rattle.rewriting.proofs.TextLaws.{both-start}
-use Rattle.rewriting.proofs.NameTable.{name-short}
+use Rattle.rewriting.proofs.NameTable.{name-short, name-letters}
 
 -- SYMBOLS COMPARED
 
@@ -159,7 +161,7 @@ pub record Plain (b : List ℕ) (end : ℕ) (o : Option (List ℕ)) : Type 0 whe
   pub held : between b 0 end ≡ text
   pub within : end ≤ length b
 
-module _ {s z b : List ℕ} {x : Symbol} {name code end : ℕ} (w : PrefixCode (x .prefix) code) (v : Lettered s x) (h : length s ≤ 255)
+module _ {s z b : List ℕ} {x : Symbol} (name : ℕ) {code end : ℕ} (w : PrefixCode (x .prefix) code) (v : Lettered s x) (h : length s ≤ 255)
     (d : Writes z 0 (plain-text s x name) b end) where
   holds : Holds b end (plain-text s x name)
   holds = rw (both-start (plain-text s x name)) at (d .adds (some []) (Holds.short [] refl refl (omega arith) refl))
@@ -179,3 +181,34 @@ module _ {s z b : List ℕ} {x : Symbol} {name code end : ℕ} (w : PrefixCode (
       go (Holds.short t e n k q) = let f : end - 0 ≡ end = omega arith in record { text = t; is = e; held = rw f q; within = omega (arith, d .kept) }
       go (Holds.long t e n k) = absurd (omega arith)
       go (Holds.nothing e k) = absurd (omega arith)
+
+-- the target's reading of the unit without quotes is compared with the unit
+module _ (m : ℕ) (s b : List ℕ) (x z : Symbol) (end name : ℕ) (q : Plain b end (plain-text s x name))
+    (j : symbol-in b z ≡ symbol m (between b 0 end)) {r : Bool} (i : r ≡ same-symbol (symbol-in b z) (symbol-in s x)) where
+  compared : same-symbol (symbol m (q .text)) (symbol-in s x) ≡ r
+  compared = sym (i ∙ rw (j, q .held))
+
+  module _ (own : List ℕ) (k : Takes m own x name) (y : Style) where
+    pub reads-plain : r ≡ true → symbol-text y m own (symbol-in s x) ≡ some (between b 0 end)
+    reads-plain e = written-plainly y m own s x name k (q .text) (q .is) (compared ∙ e) ∙ ap (λ (l : List ℕ). some l) (sym (q .held))
+
+    pub reads-other : r ≡ false → x .known ≡ true → symbol-text y m own (symbol-in s x) ≡ none
+    reads-other e f = known-unread y m own s x name k (q .text) (q .is) (compared ∙ e) f
+
+    pub reads-quoted : r ≡ false → x .known ≡ false → y .quotes ≡ true
+        → symbol-text y m own (symbol-in s x) ≡ some (prefix-letters (place (x .prefix)) ++ in-quotes (between s (x .start) (x .end)))
+    reads-quoted e f g = written-quoted y m own s x name k (q .text) (q .is) (compared ∙ e) f g
+
+    pub reads-not : r ≡ false → x .known ≡ false → y .quotes ≡ false → symbol-text y m own (symbol-in s x) ≡ none
+    reads-not e f g = unwritten y m own s x name k (q .text) (q .is) (compared ∙ e) f g
+
+-- NAMES BY THEIR PLACES
+
+pub name-none : (name : ℕ) → name ≡ 0 → name-at name ≡ none
+unfolding name-at
+name-none name e = rw e
+
+pub name-some : (name : ℕ) → (name ≡ 0 → ⊥) → {ks : List ℕ} → ks ≡ name-keys → name-at name ≡ some (letters-of 8 (getD ks (name - 1) 0))
+unfolding name-at
+name-some zero h e = absurd (h refl)
+name-some (suc i) h e = let q : suc i - 1 ≡ i = omega arith in rw (e, q, name-letters i)

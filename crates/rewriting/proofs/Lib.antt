@@ -4,3 +4,4 @@ pub mod LetterLaws
 pub mod PowerLaws
 pub mod NameTable
 pub mod UnitTexts
+pub mod LabelTexts

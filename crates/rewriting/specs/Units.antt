@@ -2,7 +2,7 @@
 use Prim.Native.Nat.{ℕ, _+_, _/_, _%_, _≤_, _<_}
 use mathlib.Core.Path.{_≡_}
 use mathlib.Core.Bool.{true, false}
-use mathlib.Core.List.{List}
+use mathlib.Core.List.{List, [], _∷_}
 use mathlib.Core.Option.{Option, some}
 use lib.ListN.{length, getD}
 use Rattle.label.specs.Choice.{pick}
@@ -12,11 +12,12 @@ use Rattle.label.specs.Units.{unit-at}
 use Rattle.label.specs.Reading.{exponent}
 use Rattle.label.specs.Reading as reading
 use Rattle.label.specs.Agreement.{bytes-at}
-use Rattle.label.specs.Writing.{prefix-letters, name-in, both-texts, own-letters}
+use Rattle.label.specs.Writing.{Style, Writable, prefix-letters, name-in, both-texts, unit-text, more-text, own-letters}
 use Rattle.symbols.specs.declared.Symbol.{Symbol}
 use Rattle.symbols.specs.Views.{place, symbol-in}
 use Rattle.content.specs.Views.{symbol-at}
 use Rattle.descent.specs.Terms.{Lent, count}
+use Rattle.rewriting.specs.declared.whole.Term.{Term}
 use Rattle.rewriting.specs.Letters.{letters-of}
 use Rattle.rewriting.specs.Names.{name-at, OwnOf}
 
@@ -59,3 +60,15 @@ pub record TermOf (s : List ℕ) (t : Lent) (x : List ℕ) (i : ℕ) : Type 0 wh
 pub record AllTerms (s : List ℕ) (t : Lent) (x : List ℕ) : Type 0 where
   pub few : count t ≤ most-terms
   pub terms : (i : ℕ) → i < count t → TermOf s t x i
+
+-- the term r of the label s stands for t
+pub record TermIs (s : List ℕ) (t : reading.Term) (r : Term) : Type 0 where
+  pub unit : symbol-in s (r .unit) ≡ t .symbol
+  pub lettered : Lettered s (r .unit)
+  pub own : r .unit .known ≡ true → OwnOf (own-letters (t .symbol) (bytes-at s t)) (r .own)
+  pub exponent : exponent (r .exponent) ≡ t .exponent
+
+-- what label-text has after the factor
+unfoldable pub terms-text : Style → ℕ → List Writable → Option (List ℕ)
+terms-text y m [] = some []
+terms-text y m (w ∷ ws) = both-texts (unit-text y m w) (more-text y m ws)

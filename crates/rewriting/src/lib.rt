@@ -7,3 +7,4 @@ pub mod numbers;
 pub mod style;
 pub mod text;
 pub mod unit;
+pub mod whole;

@@ -125,6 +125,7 @@ pub fn push_symbol(
     requires { ⌜ Lettered (now s) x × ((length (now s) ≤ most-bytes) × (name ≤ most-names)) ⌝ }
     ensures { λ r. ⌜ ((own : List ℕ) → Takes (style .notation) own x name → Writes (now (text .entry)) at
         (symbol-text (style-in style) (style .notation) own (symbol-in (now (s .entry)) x)) (now (text .exit)) r) ⌝ }
+    ensures { λ _. ⌜ length (now (text .exit)) ≡ room ⌝ }
 {
     let code = prefix_code(prefixes, x.prefix);
     let mut plain: [u8; 260] = [0; 260];

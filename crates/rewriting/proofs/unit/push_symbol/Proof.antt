@@ -2,14 +2,24 @@
 use native.Mathlib.Omega.{arith}
 use borrow.Author.Needs.{needs}
 use Rattle.rewriting.specs.Styles.{style-in}
+use Rattle.rewriting.specs.Units.{plain-text}
 use Rattle.rewriting.proofs.TextLaws.{writes-none, writes-as}
-use Rattle.rewriting.proofs.UnitTexts.{no-plain, plain-none, plain-some, reads-plain, reads-other, reads-quoted, reads-not}
+use Rattle.rewriting.proofs.UnitTexts.{Plain, no-plain, plain-none, plain-some, reads-plain, reads-other, reads-quoted, reads-not}
 use Rattle.rewriting.proofs.unit.push_symbol.Statement.{statement}
 use Rattle.rewriting.proofs.unit.push_symbol.Tie as tie
 
+-- what the array holds where it is not too long
+plain : (c : tie.Else1) → Plain (c .before .push-plain .last .0) (c .before .push-plain .result) (plain-text (c .before .before .before .before .before .before .before .before .args .s .now) (c .before .before .before .before .before .before .before .before .args .x) (c .before .before .before .before .before .before .before .before .args .name))
+plain c =
+    let start = c .before .before .before .before .before .before .before .before in
+    plain-some _ (c .before .before .before .prefix-code .ensures) (start .pre .1 .1 .0) (start .pre .1 .1 .1 .0) (c .before .push-plain .ensures) (c .if1 .left)
+
 returns : tie.Need-returns
-returns c = λ own k.
-    writes-as (no-plain _ _ own _ _ _ k (plain-none _ (c .before .before .before .prefix-code .ensures) (c .before .before .before .before .before .before .before .before .pre .1 .1 .0) (c .before .before .before .before .before .before .before .before .pre .1 .1 .1 .0) (c .before .push-plain .ensures) (c .if1 .taken))) (writes-none (c .before .before .before .before .before .before .before .before .pre .0))
+returns c =
+    let start = c .before .before .before .before .before .before .before .before in (
+      λ own k. writes-as (no-plain _ _ own _ _ _ k (plain-none _ (c .before .before .before .prefix-code .ensures) (start .pre .1 .1 .0) (start .pre .1 .1 .1 .0) (c .before .push-plain .ensures) (c .if1 .taken))) (writes-none (start .pre .0)),
+      start .pre .0,
+    )
 
 symbol-requires : tie.Need-symbol-requires
 symbol-requires c κs =
@@ -18,13 +28,17 @@ symbol-requires c κs =
 
 returns-2 : tie.Need-returns-2
 unfolding style-in
-returns-2 c = λ own k.
-    writes-as (reads-plain _ _ _ _ _ _ _ (plain-some _ (c .before .before .before .before .before .before .before .before .before .before .before .prefix-code .ensures) (c .before .before .before .before .before .before .before .before .before .before .before .before .before .before .before .before .pre .1 .1 .0) (c .before .before .before .before .before .before .before .before .before .before .before .before .before .before .before .before .pre .1 .1 .1 .0) (c .before .before .before .before .before .before .before .before .before .push-plain .ensures) (c .before .before .before .before .before .before .before .before .if1 .left)) (c .before .before .before .before .before .before .symbol .ensures .0) (c .before .before .before .before .is-same .ensures) own k _ (c .before .before .before .if2 .taken)) (c .append .ensures)
+returns-2 c = (
+  λ own k. writes-as (reads-plain _ _ _ _ _ _ _ (plain (c .before .before .before .before .before .before .before .before)) (c .before .before .before .before .before .before .symbol .ensures .0) (c .before .before .before .before .is-same .ensures) own k _ (c .before .before .before .if2 .taken)) (c .append .ensures),
+  c .append .ensures .kept,
+)
 
 returns-3 : tie.Need-returns-3
 unfolding style-in
-returns-3 c = λ own k.
-    writes-as (reads-other _ _ _ _ _ _ _ (plain-some _ (c .before .before .before .before .before .before .before .before .before .prefix-code .ensures) (c .before .before .before .before .before .before .before .before .before .before .before .before .before .before .pre .1 .1 .0) (c .before .before .before .before .before .before .before .before .before .before .before .before .before .before .pre .1 .1 .1 .0) (c .before .before .before .before .before .before .before .push-plain .ensures) (c .before .before .before .before .before .before .if1 .left)) (c .before .before .before .before .symbol .ensures .0) (c .before .before .is-same .ensures) own k _ (c .before .if2 .left) (c .if3 .taken)) (writes-none (c .before .before .before .before .before .before .before .before .before .before .before .before .before .before .pre .0))
+returns-3 c = (
+  λ own k. writes-as (reads-other _ _ _ _ _ _ _ (plain (c .before .before .before .before .before .before)) (c .before .before .before .before .symbol .ensures .0) (c .before .before .is-same .ensures) own k _ (c .before .if2 .left) (c .if3 .taken)) (writes-none (c .before .before .before .before .before .before .before .before .before .before .before .before .before .before .pre .0)),
+  c .before .before .before .before .before .before .before .before .before .before .before .before .before .before .pre .0,
+)
 
 push-quoted-requires : tie.Need-push-quoted-requires
 push-quoted-requires c κs =
@@ -34,13 +48,17 @@ push-quoted-requires c κs =
 
 returns-4 : tie.Need-returns-4
 unfolding style-in
-returns-4 c = λ own k.
-    writes-as (reads-quoted _ _ _ _ _ _ _ (plain-some _ (c .before .before .before .before .before .before .before .before .before .before .before .before .prefix-code .ensures) (c .before .before .before .before .before .before .before .before .before .before .before .before .before .before .before .before .before .pre .1 .1 .0) (c .before .before .before .before .before .before .before .before .before .before .before .before .before .before .before .before .before .pre .1 .1 .1 .0) (c .before .before .before .before .before .before .before .before .before .before .push-plain .ensures) (c .before .before .before .before .before .before .before .before .before .if1 .left)) (c .before .before .before .before .before .before .before .symbol .ensures .0) (c .before .before .before .before .before .is-same .ensures) own k _ (c .before .before .before .before .if2 .left) (c .before .before .before .if3 .left) (c .before .before .if4 .taken)) (c .push-quoted .ensures)
+returns-4 c = (
+  λ own k. writes-as (reads-quoted _ _ _ _ _ _ _ (plain (c .before .before .before .before .before .before .before .before .before)) (c .before .before .before .before .before .before .before .symbol .ensures .0) (c .before .before .before .before .before .is-same .ensures) own k _ (c .before .before .before .before .if2 .left) (c .before .before .before .if3 .left) (c .before .before .if4 .taken)) (c .push-quoted .ensures),
+  c .push-quoted .ensures .kept,
+)
 
 returns-5 : tie.Need-returns-5
 unfolding style-in
-returns-5 c = λ own k.
-    writes-as (reads-not _ _ _ _ _ _ _ (plain-some _ (c .before .before .before .before .before .before .before .before .before .before .prefix-code .ensures) (c .before .before .before .before .before .before .before .before .before .before .before .before .before .before .before .pre .1 .1 .0) (c .before .before .before .before .before .before .before .before .before .before .before .before .before .before .before .pre .1 .1 .1 .0) (c .before .before .before .before .before .before .before .before .push-plain .ensures) (c .before .before .before .before .before .before .before .if1 .left)) (c .before .before .before .before .before .symbol .ensures .0) (c .before .before .before .is-same .ensures) own k _ (c .before .before .if2 .left) (c .before .if3 .left) (c .if4 .left)) (writes-none (c .before .before .before .before .before .before .before .before .before .before .before .before .before .before .before .pre .0))
+returns-5 c = (
+  λ own k. writes-as (reads-not _ _ _ _ _ _ _ (plain (c .before .before .before .before .before .before .before)) (c .before .before .before .before .before .symbol .ensures .0) (c .before .before .before .is-same .ensures) own k _ (c .before .before .if2 .left) (c .before .if3 .left) (c .if4 .left)) (writes-none (c .before .before .before .before .before .before .before .before .before .before .before .before .before .before .before .pre .0)),
+  c .before .before .before .before .before .before .before .before .before .before .before .before .before .before .before .pre .0,
+)
 
 pub push-symbol-spec : {M : Type 1} → statement M
 push-symbol-spec =

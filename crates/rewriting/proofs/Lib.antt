@@ -5,3 +5,4 @@ pub mod PowerLaws
 pub mod NameTable
 pub mod UnitTexts
 pub mod LabelTexts
+pub mod Delivering

@@ -3,3 +3,4 @@ pub mod Styles
 pub mod Letters
 pub mod Names
 pub mod Units
+pub mod Buffers

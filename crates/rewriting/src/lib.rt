@@ -4,6 +4,7 @@ pub mod factor;
 pub mod letters;
 pub mod name;
 pub mod numbers;
+pub mod rewrite;
 pub mod style;
 pub mod text;
 pub mod unit;

@@ -1,0 +1,96 @@
+// What rewriting a label answers, and what the lent buffer holds then.
+use crate::style::style_of;
+use crate::whole::push_label;
+use checks::notation::is_notation;
+use reading::read::read;
+ghost use mathlib.Core.Path.{_≡_};
+ghost use mathlib.Core.List.{List};
+ghost use mathlib.Core.Option.{Option};
+ghost use Prim.Native.Nat.{ℕ};
+ghost use lib.ListN.{length};
+ghost use Rattle.label.specs.Writing.{sized};
+ghost use Rattle.rewriting.specs.Texts.{room, Holds};
+ghost use Rattle.rewriting.specs.Buffers.{fitted, rewriting-into, buffer-with, Answers};
+
+// The number of the refusal, or 0 and how many bytes the result has.
+#[repr(C)]
+pub struct Rewritten {
+    pub number: u32,
+    pub length: u32,
+}
+
+// Copies a result that was written into the lent buffer, where it has a form and is not too long for a label or the buffer.
+fn deliver(text: &[u8], end: usize, buffer: &mut [u8]) -> Rewritten
+    requires { ⌜ length (now text) ≡ room ⌝ }
+    ensures { λ r. ⌜ ((o : Option (List ℕ)) → Holds (now (text .entry)) end o → Answers (fitted (length (now (buffer .entry))) (sized o)) r) ⌝ }
+    ensures { λ _. ⌜ ((o : Option (List ℕ)) → Holds (now (text .entry)) end o
+        → now (buffer .exit) ≡ buffer-with (fitted (length (now (buffer .entry))) (sized o)) (now (buffer .entry))) ⌝ }
+{
+    if end == 262 {
+        return Rewritten {
+            number: 12,
+            length: 0,
+        };
+    }
+    if 255 < end {
+        return Rewritten {
+            number: 13,
+            length: 0,
+        };
+    }
+    if buffer.len() < end {
+        return Rewritten {
+            number: 14,
+            length: 0,
+        };
+    }
+    bytes::copy(&text[0..end], buffer);
+    Rewritten {
+        number: 0,
+        length: end as u32,
+    }
+}
+
+// Rewrites the label `s` of notation `n` in notation `m`, for any numbers, bytes and buffer.
+pub fn rewrite(n: u32, s: &[u8], m: u32, buffer: &mut [u8]) -> Rewritten
+    ensures { λ r. ⌜ Answers (rewriting-into (length (now (buffer .entry))) n (now (s .entry)) m) r ⌝ }
+    ensures { λ _. ⌜ now (buffer .exit) ≡ buffer-with (rewriting-into (length (now (buffer .entry))) n (now (s .entry)) m) (now (buffer .entry)) ⌝ }
+{
+    let mut places: [usize; 66] = [0; 66];
+    let mut exponents: [i32; 32] = [0; 32];
+    let mut names: [u8; 128] = [0; 128];
+    let mut bases: [i64; 32] = [0; 32];
+    let mut primes: [i64; 4] = [0; 4];
+    let a = read(
+        n,
+        s,
+        &mut places,
+        &mut exponents,
+        &mut names,
+        &mut bases,
+        &mut primes,
+    );
+    if a.number != 0 {
+        return Rewritten {
+            number: a.number as u32,
+            length: 0,
+        };
+    }
+    if !is_notation(m) {
+        return Rewritten {
+            number: 1,
+            length: 0,
+        };
+    }
+    let mut text: [u8; 260] = [0; 260];
+    let end = push_label(
+        &mut text,
+        style_of(m as u8),
+        s,
+        a.k,
+        &places,
+        &exponents,
+        &names,
+    );
+    deliver(&text, end, buffer)
+}

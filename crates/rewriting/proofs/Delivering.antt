@@ -18,7 +18,7 @@ use Rattle.label.specs.Notations.{member, notation}
 use Rattle.label.specs.Ranges.{between}
 use Rattle.label.specs.Reading.{Reading, reading}
 use Rattle.label.specs.Writing.{Writable, Rewriting, refuse, unless, sized, rewriting, label-text, written-by, written, written-reading, writable, style-of}
-use Rattle.symbols.proofs.Parts.{part-length}
+use Rattle.symbols.proofs.Parts.{length-between}
 use Rattle.descent.specs.Terms.{Lent, count}
 use Rattle.content.specs.Views.{terms-in}
 use Rattle.content.proofs.Naming.{all-in-at}
@@ -59,7 +59,7 @@ pub copied : (t c d : List ℕ) (end : ℕ) → end ≤ length t
     → d ≡ take (length (between t 0 end)) (between t 0 end) ++ drop (length (between t 0 end)) c → d ≡ take end t ++ drop end c
 copied t c d end h e =
     let f : end - 0 ≡ end = omega arith in
-    let n : length (between t 0 end) ≡ end = part-length t 0 end (omega arith) h ∙ f in
+    let n : length (between t 0 end) ≡ end = length-between t 0 end h ∙ f in
     e ∙ rw (n, take-all end (between t 0 end) (rw n (omega arith)), f)
 
 -- A WRITTEN TEXT

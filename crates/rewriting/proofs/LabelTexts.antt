@@ -20,12 +20,12 @@ use Rattle.label.specs.Reading.{Term, exponent}
 use Rattle.label.specs.Writing.{Style, Writable, prefix-letters, name-in, factor-text, symbol-text, exponent-text, both-texts, unit-text, more-text, label-text, own-letters, writable}
 use Rattle.symbols.specs.declared.Symbol.{Symbol}
 use Rattle.symbols.specs.Views.{place, symbol-in}
-use Rattle.symbols.proofs.Parts.{part-drop}
+use Rattle.symbols.proofs.Parts.{drop-between}
 use Rattle.descent.specs.Terms.{Lent, count}
 use Rattle.content.specs.Views.{by-code, symbol-at, term-in, terms-in}
 use Rattle.rewriting.specs.declared.whole.Term.{Term as Coded}
 use Rattle.rewriting.specs.declared.name.Own.{Own}
-use Rattle.rewriting.specs.declared.name.Span.{Span}
+use Rattle.rewriting.specs.declared.name.NameRange.{NameRange}
 use Rattle.rewriting.specs.Texts.{room, Holds, Writes}
 use Rattle.rewriting.specs.Names.{name-at, names-in, NamesOf, OwnOf}
 use Rattle.rewriting.specs.Units.{PrefixCode, Lettered, Takes, SymbolAt, TermOf, TermIs, terms-text}
@@ -158,14 +158,14 @@ module _ {s : List ℕ} {t : Lent} {x : List ℕ} {i : ℕ} (w : TermOf s t x i)
 
   own-part : u .known ≡ true → own-letters (symbol-at s x i) (bytes-at s (term-in s t x i)) ≡ between s (getD (t .places) i 0 + code / 65536) (getD (t .places) (32 + i) 0)
   unfolding own-letters symbol-in
-  own-part e = rw (← v .is s, e, ← c .size, part-drop s (getD (t .places) i 0) (getD (t .places) (32 + i) 0) (code / 65536))
+  own-part e = rw (← v .is s, e, ← c .size, drop-between s (getD (t .places) i 0) (getD (t .places) (32 + i) 0) (code / 65536))
 
   pub term-is : {own : Own} {e : ℤ} → OwnOf (between s (getD (t .places) i 0 + code / 65536) (getD (t .places) (32 + i) 0)) own → e ≡ getD (t .exponents) i (pos 0)
       → TermIs s (term-in s t x i) (record { unit = u; own = own; exponent = e })
   term-is o q = record { unit = v .is s; lettered = lettered; own = λ e. rw (own-part e) o; exponent = rw q }
 
 -- what a term is written as: its unit, then its exponent
-pub term-written : (y : Style) (m : ℕ) (s : List ℕ) (r : Coded) {b c d : List ℕ} {at p q name : ℕ} {x : Span}
+pub term-written : (y : Style) (m : ℕ) (s : List ℕ) (r : Coded) {b c d : List ℕ} {at p q name : ℕ} {x : NameRange}
     → NamesOf (r .unit .unit) x → ((l : List ℕ) → OwnOf l (r .own) → name-at name ≡ name-in m l (names-in x))
     → ((own : List ℕ) → Takes m own (r .unit) name → Writes b at (symbol-text y m own (symbol-in s (r .unit))) c p)
     → (z : ℤ) → z ≡ r .exponent → Writes c p (exponent-text y (exponent z)) d q

@@ -10,7 +10,7 @@ use borrow.Author.Tests.{eq-eqb, ne-eqb}
 use Rattle.label.specs.Bytes.{same}
 use Rattle.label.specs.Ranges.{between}
 use Rattle.label.proofs.Basics.{same-is}
-use Rattle.symbols.proofs.Parts.{part-none, part-cons, part-length}
+use Rattle.symbols.proofs.Parts.{between-none, between-cons, length-between}
 use Rattle.rewriting.specs.Letters.{letters-of}
 
 -- A KEY'S LETTERS
@@ -46,7 +46,7 @@ pub compare-longer : (s : List ℕ) (start end : ℕ) (t : List ℕ) (from to : 
 compare-longer s start end t from to a b c d h = go (same (between s start end) (between t from to)) refl
   where
     go : (x : Bool) → same (between s start end) (between t from to) ≡ x → false ≡ x
-    go true e = absurd (h (sym (part-length s start end a b) ∙ ap length (same-is (between s start end) (between t from to) e) ∙ part-length t from to c d))
+    go true e = absurd (h (sym (length-between s start end b) ∙ ap length (same-is (between s start end) (between t from to) e) ∙ length-between t from to d))
     go false e = refl
 
 module _ {s : List ℕ} {start end : ℕ} {t : List ℕ} {from to : ℕ} where
@@ -59,11 +59,11 @@ module _ {s : List ℕ} {start end : ℕ} {t : List ℕ} {from to : ℕ} where
     compare-all h =
         let a : i ≡ end = omega (arith, w .before) in
         let b : j ≡ to = omega (arith, w .other-before, w .level) in
-        sym (w .rest ∙ rw (a, b, part-none s end, part-none t to))
+        sym (w .rest ∙ rw (a, b, between-none s end, between-none t to))
 
     module _ (h : i < end) where
       first : same (between s i end) (between t j to) ≡ same (getD s i 0 ∷ between s (i + 1) end) (getD t j 0 ∷ between t (j + 1) to)
-      first = rw (part-cons s i end h (w .within), part-cons t j to (omega (arith, w .level)) (w .other-within))
+      first = rw (between-cons s i end h (w .within), between-cons t j to (omega (arith, w .level)) (w .other-within))
 
       pub compare-differ : (getD s i 0 ≡ getD t j 0 → ⊥) → false ≡ same (between s start end) (between t from to)
       unfolding same

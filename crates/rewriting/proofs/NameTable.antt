@@ -30,7 +30,7 @@ use Rattle.symbols.proofs.RowLaws.{every, every-at}
 use Rattle.symbols.proofs.KeyLaws.{keyable, long-other, Spelled, agrees-spelled}
 use Rattle.symbols.proofs.NameLaws as laws
 use Rattle.symbols.proofs.PrefixLaws as prefix-laws
-use Rattle.rewriting.specs.declared.name.Span.{Span}
+use Rattle.rewriting.specs.declared.name.NameRange.{NameRange}
 use Rattle.rewriting.specs.declared.name.Own.{Own}
 use Rattle.rewriting.specs.Letters.{letters-of}
 use Rattle.rewriting.specs.Names.{most-names, entry, is-named, name-of, names-in, name-at, places-from, first-places, Few, NamesOf, OwnOf}
@@ -104,7 +104,7 @@ is-known n i e = rw (e, laws.code-at i, laws.code-sound i .1 .0, ← entry-is i,
 
 -- A PART OF THE TABLE
 
-module _ {x : Span} (w : Few x) where
+module _ {x : NameRange} (w : Few x) where
   pub no-names : x .end ≤ x .first → names-in x ≡ []
   unfolding names-in
   no-names h = let e : x .end - x .first ≡ 0 = omega arith in rw e
@@ -138,7 +138,7 @@ module _ {x : Span} (w : Few x) where
 letters-own : (n i : ℕ) (l : List ℕ) → is-named n l (name-of (entry i)) ≡ true → some (entry i .letters) ≡ some l
 letters-own n i l e = ap (λ (s : List ℕ). some s) (sym (same-is l (entry i .letters) (and-left (same l (entry i .letters)) _ e)))
 
-module _ (n : ℕ) (l : List ℕ) {x : Span} (w : Few x) where
+module _ (n : ℕ) (l : List ℕ) {x : NameRange} (w : Few x) where
   pub own-no : x .end ≤ x .first → name-at 0 ≡ pick (has-name n l (names-in x)) (some l) none
   unfolding name-at has-name
   own-no h = rw (no-names w h)
@@ -173,7 +173,7 @@ among-none : (n : ℕ) → name-among n [] ≡ none
 unfolding name-among
 among-none n = refl
 
-module _ (n : ℕ) {x : Span} (w : Few x) where
+module _ (n : ℕ) {x : NameRange} (w : Few x) where
   pub known-no : x .end ≤ x .first → (name-at 0 ≡ name-among n (names-in x)) × (0 ≤ most-names)
   unfolding name-at name-among
   known-no h = (rw (no-names w h), omega arith)

@@ -11,12 +11,12 @@ use lib.Seq.{take-suc-set}
 use Rattle.label.specs.Choice.{pick}
 use Rattle.label.specs.Ranges.{between}
 use Rattle.label.specs.Writing.{both-texts}
-use Rattle.symbols.proofs.Parts.{part-none, part-cons, part-join}
+use Rattle.symbols.proofs.Parts.{between-none, between-cons, between-join}
 use Rattle.rewriting.specs.Texts.{room, too-long, formless, Holds, Writes}
 
 -- a part and the byte after it
 part-snoc : (s : List ℕ) (a i : ℕ) → a ≤ i → i < length s → between s a (i + 1) ≡ between s a i ++ getD s i 0 ∷ []
-part-snoc s a i h g = sym (part-join s a i (i + 1) h (omega arith)) ∙ rw (part-cons s i (i + 1) (omega arith) (omega arith), part-none s (i + 1))
+part-snoc s a i h g = sym (between-join s a i (i + 1) h (omega arith)) ∙ rw (between-cons s i (i + 1) (omega arith) (omega arith), between-none s (i + 1))
 
 -- BOTH TEXTS
 
@@ -109,7 +109,7 @@ pub record Appending (b : List ℕ) (at : ℕ) (s : List ℕ) (start end : ℕ) 
   pub written : Writes b at (some (between s start i)) c r
 
 pub append-start : (b : List ℕ) (at : ℕ) (s : List ℕ) (start end : ℕ) → length b ≡ room → start ≤ end → end ≤ length s → Appending b at s start end b at start
-append-start b at s start end h l g = record { after = omega arith; before = l; within = g; room-left = h; written = rw (part-none s start) (writes-nothing h) }
+append-start b at s start end h l g = record { after = omega arith; before = l; within = g; room-left = h; written = rw (between-none s start) (writes-nothing h) }
 
 pub append-more : {b c d : List ℕ} {at start end r q i : ℕ} {s : List ℕ} → Appending b at s start end c r i → i < end
     → Writes c r (some (getD s i 0 ∷ [])) d q → Appending b at s start end d q (i + 1)

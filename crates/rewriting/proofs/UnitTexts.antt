@@ -19,7 +19,7 @@ use Rattle.label.specs.Writing.{Style, prefix-letters, same-prefix, same-symbol
 use Rattle.symbols.specs.declared.Symbol.{Symbol}
 use Rattle.symbols.specs.Columns.{name-keys}
 use Rattle.symbols.specs.Views.{place, symbol-in}
-use Rattle.symbols.proofs.Parts.{part-length}
+use Rattle.symbols.proofs.Parts.{length-between}
 use Rattle.rewriting.specs.Texts.{room, formless, Holds, Writes}
 use Rattle.rewriting.specs.Letters.{letters-of}
 use Rattle.rewriting.specs.Names.{name-at, entry}
@@ -152,7 +152,7 @@ plain-short s x name code w v h t e = go (x .known) refl e
     go true q e = named name t e
     go false q e =
         let r : prefix-letters (place (x .prefix)) ++ between s (x .start) (x .end) ≡ t = cc in
-        rw (← r, length-append, part-length s (x .start) (x .end) (v .forward q) (v .within q)) (omega (arith, v .within q, w .few, w .size))
+        rw (← r, length-append, length-between s (x .start) (x .end) (v .within q)) (omega (arith, v .within q, w .few, w .size))
 
 -- what the array holds of a unit without quotes
 pub record Plain (b : List ℕ) (end : ℕ) (o : Option (List ℕ)) : Type 0 where

@@ -10,7 +10,7 @@ use Rattle.label.specs.Notations.{member}
 use Rattle.label.specs.Units.{Name, KnownUnit, units, unit-at}
 use Rattle.symbols.specs.Keys.{key-of, agrees}
 use Rattle.symbols.specs.Names.{Entry, names}
-use Rattle.rewriting.specs.declared.name.Span.{Span}
+use Rattle.rewriting.specs.declared.name.NameRange.{NameRange}
 use Rattle.rewriting.specs.declared.name.Own.{Own}
 
 -- how many names the table has
@@ -29,7 +29,7 @@ abbrev pub name-of : Entry → Name
 name-of x = record { letters = x .letters; known-in = x .known-in }
 
 -- a part of the table of names
-unfoldable pub names-in : Span → List Name
+unfoldable pub names-in : NameRange → List Name
 names-in x = map name-of (take (x .end - x .first) (drop (x .first) names))
 
 -- the letters of a name by its place, counted from 1; 0 is no name
@@ -46,13 +46,13 @@ unfoldable pub first-places : List ℕ
 first-places = places-from 0 units
 
 -- a part of the table, of at most two names
-pub record Few (x : Span) : Type 0 where
+pub record Few (x : NameRange) : Type 0 where
   pub forward : x .first ≤ x .end
   pub within : x .end ≤ most-names
   pub few : x .end ≤ x .first + 2
 
 -- the names of the unit of row u
-pub record NamesOf (u : ℕ) (x : Span) : Type 0 where
+pub record NamesOf (u : ℕ) (x : NameRange) : Type 0 where
   pub part : Few x
   pub are : names-in x ≡ unit-at u .names
 

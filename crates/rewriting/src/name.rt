@@ -1,7 +1,7 @@
 // The name that a known unit takes in the target.
 use symbols::lookup::is_name;
-use symbols::spelling::has_notation;
-use symbols::spelling::key;
+use symbols::keys::has_notation;
+use symbols::keys::key;
 ghost use Prim.Native.Nat.{ℕ, _≤_, _<_};
 ghost use mathlib.Core.Path.{_≡_};
 ghost use mathlib.Core.List.{List};
@@ -16,7 +16,7 @@ ghost use Rattle.symbols.specs.Columns.{name-codes, NameColumns};
 ghost use Rattle.rewriting.specs.Names.{most-names, entry, name-of, is-named, names-in, name-at, first-places, Few, NamesOf, OwnOf};
 
 // Where the names of a unit start and end in the table of names.
-pub struct Span {
+pub struct NameRange {
     pub first: usize,
     pub end: usize,
 }
@@ -108,17 +108,17 @@ fn first_at(firsts: &[u8], i: usize) -> u8
 }
 
 // The names of the unit of that row.
-pub fn names_of(firsts: &[u8], unit: u8) -> Span
+pub fn names_of(firsts: &[u8], unit: u8) -> NameRange
     requires { ⌜ now firsts ≡ first-places ⌝ }
     ensures { λ r. ⌜ NamesOf unit r ⌝ }
 {
     let i = unit as usize;
     if 60 < i {
-        return Span { first: 0, end: 0 };
+        return NameRange { first: 0, end: 0 };
     }
     let first = first_at(firsts, i) as usize;
     let end = first_at(firsts, i + 1) as usize;
-    Span { first, end }
+    NameRange { first, end }
 }
 
 // The letters of `s` from `start` up to `end`.
@@ -155,7 +155,7 @@ fn is_known(codes: &[u32], n: u8, i: usize) -> bool
 }
 
 // One more than the place of the name of these that has those letters and that notation `n` knows, or 0.
-fn own_place(keys: &[u64], codes: &[u32], n: u8, names: Span, own: Own) -> usize
+fn own_place(keys: &[u64], codes: &[u32], n: u8, names: NameRange, own: Own) -> usize
     requires { ⌜ NameColumns (now keys) (now codes) × Few names ⌝ }
     ensures { λ r. ⌜ ((l : List ℕ) → OwnOf l own → name-at r ≡ pick (has-name n l (names-in names)) (some l) none) ⌝ }
     ensures { λ r. ⌜ r ≤ most-names ⌝ }
@@ -179,7 +179,7 @@ fn own_place(keys: &[u64], codes: &[u32], n: u8, names: Span, own: Own) -> usize
 }
 
 // One more than the place of the first of these names that notation `n` knows, or 0.
-fn first_known(codes: &[u32], n: u8, names: Span) -> usize
+fn first_known(codes: &[u32], n: u8, names: NameRange) -> usize
     requires { ⌜ (now codes ≡ name-codes) × Few names ⌝ }
     ensures { λ r. ⌜ (name-at r ≡ name-among n (names-in names)) × (r ≤ most-names) ⌝ }
 {
@@ -202,7 +202,7 @@ fn first_known(codes: &[u32], n: u8, names: Span) -> usize
 }
 
 // One more than the place of the name of these that a unit takes in notation `n`: its own, or the first that is known there, or 0.
-pub fn name_in(keys: &[u64], codes: &[u32], n: u8, names: Span, own: Own) -> usize
+pub fn name_in(keys: &[u64], codes: &[u32], n: u8, names: NameRange, own: Own) -> usize
     requires { ⌜ NameColumns (now keys) (now codes) × Few names ⌝ }
     ensures { λ r. ⌜ ((l : List ℕ) → OwnOf l own → name-at r ≡ name-in n l (names-in names)) ⌝ }
     ensures { λ r. ⌜ r ≤ most-names ⌝ }

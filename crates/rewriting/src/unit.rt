@@ -4,7 +4,7 @@ use crate::letters::same_letters;
 use crate::style::Style;
 use crate::text::append;
 use crate::text::push;
-use symbols::Part;
+use symbols::Span;
 use symbols::Symbol;
 use symbols::lookup::symbol;
 ghost use Prim.Native.Nat.{ℕ, _≤_};
@@ -139,7 +139,7 @@ pub fn push_symbol(
         prefixes,
         style.notation,
         &plain,
-        Part { start: 0, end },
+        Span { start: 0, end },
     );
     if is_same(&plain, y, s, x) {
         return append(text, at, &plain, 0, end);

@@ -3,9 +3,13 @@ pub mod convert;
 
 use reading::read::read;
 use record::buffer::write_record;
+use rewriting::rewrite::Rewritten;
+use rewriting::rewrite::rewrite;
 ghost use mathlib.Core.Path.{_≡_};
 ghost use Rattle.label.specs.Reading.{reading};
 ghost use Rattle.record.specs.Record.{buffer-after};
+ghost use Rattle.rewriting.specs.Buffers.{rewriting-into, buffer-with, Answers};
+ghost use lib.ListN.{length};
 
 // Reads the label in a notation and answers the number of the refusal, or 0 and the reading's record in the lent buffer.
 #[no_mangle]
@@ -32,4 +36,20 @@ pub extern "C" fn thalinguze_read(notation: u32, label: &[u8], buffer: &mut [u8]
     }
     write_record(buffer, a, &places, &exponents, &names, &bases, &primes);
     0
+}
+
+// Rewrites the label of one notation in another and answers the number of the refusal, or 0 and how many bytes the result has. The result is at
+// the start of the lent buffer; a refusal changes no byte of it.
+#[no_mangle]
+pub extern "C" fn thalinguze_rewrite(
+    source: u32,
+    label: &[u8],
+    target: u32,
+    buffer: &mut [u8],
+) -> Rewritten
+    ensures { λ r. ⌜ Answers (rewriting-into (length (now (buffer .entry))) source (now (label .entry)) target) r ⌝ }
+    ensures { λ _. ⌜ now (buffer .exit)
+        ≡ buffer-with (rewriting-into (length (now (buffer .entry))) source (now (label .entry)) target) (now (buffer .entry)) ⌝ }
+{
+    rewrite(source, label, target, buffer)
 }

@@ -10,7 +10,7 @@ SANITIZERS = -g -fsanitize=address,undefined -fno-sanitize-recover=all
 LIBRARY = build/libthalinguze.a
 HEADERS = include/thalinguze.h $(wildcard c/*.h)
 PARTS = $(patsubst c/%.c,build/%.o,$(wildcard c/*.c))
-TESTS = $(addprefix build/tests/,limits header advice stack guard guard-plain print_labels convert)
+TESTS = $(addprefix build/tests/,limits header advice stack guard guard-plain print_labels rewrite convert)
 
 all: $(LIBRARY) build/thalinguze
 
@@ -30,7 +30,7 @@ test: all $(TESTS)
 	@tests/stack.sh
 	@tests/guard.sh
 
-compare: all build/tests/print_labels build/tests/convert
+compare: all build/tests/print_labels build/tests/rewrite build/tests/convert
 	@tests/second.sh $(COUNT) 1 all
 	@tests/independent.sh $(COUNT)
 
@@ -55,12 +55,12 @@ build/%.o: c/%.c $(HEADERS)
 build/thalinguze: $(PARTS) $(LIBRARY)
 	$(CC) -o $@ $^
 
-build/tests/%: tests/%.c tests/arena.h tests/labels.h tests/painted.h tests/reader.h $(HEADERS) $(LIBRARY)
+build/tests/%: tests/%.c tests/arena.h tests/hex_label.h tests/labels.h tests/painted.h tests/reader.h $(HEADERS) $(LIBRARY)
 	@mkdir -p build/tests
 	$(CC) $(CFLAGS) -o $@ $(filter %.c,$^) $(LIBRARY)
 
 build/tests/stack: CFLAGS += -pthread
-build/tests/guard build/tests/advice build/tests/convert: CFLAGS += $(SANITIZERS)
+build/tests/guard build/tests/advice build/tests/rewrite build/tests/convert: CFLAGS += $(SANITIZERS)
 build/tests/advice: c/advice.c c/loose.c c/loose_numbers.c c/meant.c
 
 build/tests/guard-plain: tests/guard.c tests/arena.h tests/labels.h $(HEADERS) $(LIBRARY)

@@ -1,5 +1,5 @@
 /*
- * thalinguze.h: reading of physics unit labels.
+ * thalinguze.h: physics unit labels, read, rewritten in another notation and converted.
  *
  * One call reads a label such as "kg/m.s" under one of four notations and writes what it means into a record of fixed layout:
  *
@@ -45,7 +45,7 @@ enum {
     THALINGUZE_VOUNITS = 4
 };
 
-/* What the calls return: 0, or the first of these that applies. Reading gives 1 to 7, converting 1 to 11. */
+/* What the calls return: 0, or the first of these that applies. Reading gives 1 to 7, converting 1 to 11, rewriting 1 to 7 and 12 to 14. */
 enum {
     THALINGUZE_ACCEPTED = 0,
     THALINGUZE_NO_SUCH_NOTATION = 1,  /* the notation number is not 1 to 4 */
@@ -58,7 +58,10 @@ enum {
     THALINGUZE_UNKNOWN_UNIT = 8,      /* converting: a unit of either label is not known */
     THALINGUZE_DIMENSIONS_DIFFER = 9, /* converting: the labels have different dimensions */
     THALINGUZE_NO_FRACTION = 10,      /* converting: the factor is not a fraction */
-    THALINGUZE_FACTOR_OUT_OF_BOUNDS = 11 /* converting: the numerator, the denominator or k breaks its bound */
+    THALINGUZE_FACTOR_OUT_OF_BOUNDS = 11, /* converting: the numerator, the denominator or k breaks its bound */
+    THALINGUZE_NO_FORM = 12,          /* rewriting: a term or an exponent has no form in the target */
+    THALINGUZE_RESULT_TOO_LONG = 13,  /* rewriting: the result is over THALINGUZE_MAX_LABEL_SIZE bytes */
+    THALINGUZE_BUFFER_TOO_SHORT = 14  /* rewriting: the lent buffer is shorter than the result */
 };
 
 /* Limits of an accepted label. */
@@ -370,6 +373,37 @@ static inline int64_t thalinguze_scale(const uint8_t *record, unsigned prime)
 {
     return thalinguze_field(record, THALINGUZE_FIELD_SCALE + prime);
 }
+
+/* REWRITING */
+
+/* What rewriting answers: 0 and how many bytes the result has, or the number of a refusal and 0. */
+struct thalinguze_rewritten {
+    uint32_t number;
+    uint32_t length;
+};
+
+/*
+ * Rewrites a label in another notation, without slashes and groups. Read there, the result has the same units, prefixes, exponents and power
+ * of ten, in the same order.
+ *
+ *     const char *label = "10+3pix/h";
+ *     uint8_t result[THALINGUZE_MAX_LABEL_SIZE];
+ *     struct thalinguze_rewritten r =
+ *         thalinguze_rewrite(THALINGUZE_CDS, (const uint8_t *)label, strlen(label), THALINGUZE_OGIP, result, sizeof result);
+ *     if (r.number == THALINGUZE_ACCEPTED)
+ *         printf("%.*s\n", (int)r.length, (const char *)result);
+ *
+ * prints 10**3 pixel h**(-1). The result is not ended by a byte 0.
+ *
+ * source, target       the notation of the label and that of the result, as for thalinguze_read.
+ * label, label_size    the label's bytes.
+ * buffer, buffer_size  where the result is written; THALINGUZE_MAX_LABEL_SIZE bytes hold every result. It does not overlap the label.
+ *
+ * The number is 0, or that of the first refusal that applies: 1 to 7 of the label, 1 for the target, then 12 to 14. A refusal changes no
+ * byte of the buffer, and an accepted label changes only the bytes of its result.
+ */
+struct thalinguze_rewritten thalinguze_rewrite(uint32_t source, const uint8_t *label, size_t label_size, uint32_t target, uint8_t *buffer,
+                                               size_t buffer_size);
 
 /* CONVERTING */
 

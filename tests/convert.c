@@ -4,45 +4,12 @@
    past the record changes. */
 #define _DEFAULT_SOURCE
 #include <inttypes.h>
-#include "arena.h"
+#include "hex_label.h"
 #include "../include/thalinguze.h"
 
-enum { ROOM = THALINGUZE_CONVERSION_SIZE + 8, LABEL_ROOM = 1024, FILL = 0xa5 };
-
-struct label {
-    uint32_t notation;
-    char text[2 * LABEL_ROOM];
-    size_t size;
-    uint8_t bytes[LABEL_ROOM];
-};
-
-static bool decode(struct label *l)
-{
-    l->size = 0;
-    if (strcmp(l->text, "-") == 0)
-        return true;
-    for (const char *at = l->text; *at != 0; at += 2) {
-        unsigned byte;
-        if (l->size == LABEL_ROOM || sscanf(at, "%2x", &byte) != 1)
-            return false;
-        l->bytes[l->size++] = (uint8_t)byte;
-    }
-    return true;
-}
+enum { ROOM = THALINGUZE_CONVERSION_SIZE + 8 };
 
 static struct arena first_arena, second_arena, record_arena;
-
-static uint8_t *lend(const struct arena *a, const struct label *l, unsigned where)
-{
-    uint8_t *text = place(a, l->size, where, FILL);
-    memcpy(text, l->bytes, l->size);
-    return text;
-}
-
-static bool kept(const struct arena *a, const struct label *l, const uint8_t *text)
-{
-    return memcmp(text, l->bytes, l->size) == 0 && outside_kept(a, text, l->size, FILL);
-}
 
 /* converts into a buffer of that size; the first bytes, as many as a conversion writes, come into the record */
 static bool convert(const struct label *a, const struct label *b, size_t size, unsigned where, uint32_t *number, uint8_t *record)
@@ -73,7 +40,7 @@ int main(void)
     first_arena = make_arena(LABEL_ROOM + 2 * GUARD);
     second_arena = make_arena(LABEL_ROOM + 2 * GUARD);
     record_arena = make_arena(ROOM + 2 * GUARD);
-    for (unsigned long line = 0; scanf("%" SCNu32 " %2047s %" SCNu32 " %2047s", &a.notation, a.text, &b.notation, b.text) == 4; line++) {
+    for (unsigned long line = 0; scanf("%" SCNu32 " " LABEL_TEXT " %" SCNu32 " " LABEL_TEXT, &a.notation, a.text, &b.notation, b.text) == 4; line++) {
         uint8_t record[THALINGUZE_CONVERSION_SIZE];
         uint32_t number;
         if (!decode(&a) || !decode(&b))

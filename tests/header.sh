@@ -18,3 +18,17 @@ gcc -std=c11 -Wall -Wextra -Werror -Iinclude -o build/tests/example build/tests/
 printf 'unit %s, exponent %s sixtieths\n' 2 60 1 -60 3 60 >build/tests/example.wanted
 build/tests/example | diff - build/tests/example.wanted
 echo "the header's example prints what the header says"
+
+# fragment FIRST WANTED: the example of a call, from the line that begins with FIRST up to the end of its code, as a whole program
+fragment() {
+    {
+        printf '#include <stdio.h>\n#include <string.h>\n#include "thalinguze.h"\nint main(void)\n{\n'
+        sed -n "/^ \*     $1/,/^ \*\$/s/^ \*  \{0,5\}//p" include/thalinguze.h
+        printf 'return 0;\n}\n'
+    } >build/tests/fragment.c
+    gcc -std=c11 -Wall -Wextra -Werror -Iinclude -o build/tests/fragment build/tests/fragment.c build/libthalinguze.a
+    [ "$(build/tests/fragment)" = "$2" ] || { echo "the header's example prints $(build/tests/fragment), not $2"; exit 1; }
+}
+fragment 'const char \*label = "10' '10**3 pixel h**(-1)'
+fragment 'const char \*from' '1/36, k = 1'
+echo "the header's examples of rewriting and converting print what the header says"

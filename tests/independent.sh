@@ -21,6 +21,7 @@ compare() {
 { cut -d' ' -f1,2 vectors/readings.tsv; build/tests/print_labels "$count"; } >"$out/read.cases"
 python3 tests/independent.py read <"$out/read.cases" >"$out/read.second"
 compare read build/thalinguze read --vectors
+compare rewrite build/tests/rewrite
 compare convert build/tests/convert
 cut -d' ' -f1-4 vectors/converts.tsv | build/tests/convert | cmp - vectors/converts.tsv || { echo 'the library differs from vectors/converts.tsv'; exit 1; }
 echo "$(wc -l <vectors/converts.tsv) conversions are those of vectors/converts.tsv"

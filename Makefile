@@ -1,4 +1,4 @@
-# make: the library and the command, in build/. make run: what kg/m.s means in each notation; NOTATION=cds LABEL='km/h' for another.
+# make: the library, the command and the line program, in build/. make run: what kg/m.s means in each notation; NOTATION=cds LABEL='km/h' for another.
 # make test: every program of tests/. make compare COUNT=100000: random cases against the second implementation, tests/independent.py.
 # make bench: how long reading takes and how much stack, beside other readers; see docs/PERFORMANCE.md. make clean: removes build/.
 NOTATION = fits ogip cds vou
@@ -12,7 +12,7 @@ HEADERS = include/thalinguze.h $(wildcard c/*.h)
 PARTS = $(patsubst c/%.c,build/%.o,$(wildcard c/*.c))
 TESTS = $(addprefix build/tests/,limits header advice stack guard guard-plain print_labels rewrite convert)
 
-all: $(LIBRARY) build/thalinguze
+all: $(LIBRARY) build/thalinguze build/label-lines
 
 run: all
 	@for n in $(NOTATION); do build/thalinguze read $$n "$$LABEL" || test $$? = 1; echo; done
@@ -29,6 +29,7 @@ test: all $(TESTS)
 	@tests/independent.sh
 	@tests/stack.sh
 	@tests/guard.sh
+	@tests/lines.sh
 
 compare: all build/tests/print_labels build/tests/rewrite build/tests/convert
 	@tests/second.sh $(COUNT) 1 all
@@ -47,6 +48,14 @@ $(LIBRARY): crates.txt $(shell find crates -name '*.rt' -o -name '*.antt')
 	@{ rt staticlib face 2>&1; echo "exit status $$?"; } | tee build/library.log | grep --line-buffered '^rt: ' || true
 	@tail -n 1 build/library.log | grep -qx 'exit status 0' || { tail -n 20 build/library.log; false; }
 	cp target/staticlib/libface.a $@
+
+# The line program is proved and built by rt check.
+build/label-lines: crates.txt $(shell find crates -name '*.rt' -o -name '*.antt')
+	@mkdir -p build
+	@echo 'checking the proofs of the line program and building it: some minutes'
+	@{ rt check label_lines 2>&1; echo "exit status $$?"; } | tee build/lines.log | grep --line-buffered '^rt: ' || true
+	@tail -n 1 build/lines.log | grep -qx 'exit status 0' || { tail -n 20 build/lines.log; false; }
+	cp target/bin/label_lines $@
 
 build/%.o: c/%.c $(HEADERS)
 	@mkdir -p build

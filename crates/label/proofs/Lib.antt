@@ -34,3 +34,4 @@ pub mod Parts
 pub mod Sources
 pub mod Forms
 pub mod Formed
+pub mod Bounded

@@ -12,6 +12,12 @@ bytes empty = []
 bytes (c then s) = code c ∷ bytes s
 
 -- the named bytes
+abbrev pub tab : ℕ
+tab = code "\t"
+
+abbrev pub newline : ℕ
+newline = code "\n"
+
 abbrev pub space : ℕ
 space = code " "
 

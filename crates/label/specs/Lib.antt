@@ -22,3 +22,4 @@ pub mod Letters
 pub mod Samples
 pub mod Ranges
 pub mod Writing
+pub mod Lines

@@ -1,94 +1,99 @@
--- What stands between units, at a place of the text: one law for each way through the code.
+-- What is between units, at a place of the text: one law for each way through the code.
 use Prim.Native.Nat.{ℕ, _≤_, _<_, _+_}
 use native.Mathlib.Omega.{arith}
 use mathlib.Core.Path.{_≡_, refl, sym, _∙_}
 use mathlib.Core.Bool.{Bool, true, false, _&&_, not}
 use mathlib.Core.List.{List, [], _∷_}
+use mathlib.Core.Option.{Option, none, some}
 use lib.Dec.{eqb}
 use lib.ListN.{length, drop, getD}
 use borrow.Author.Tests.{not-true, not-false}
 use Rattle.label.specs.declared.Rules.{Rules}
-use Rattle.label.specs.Parse.{padded, spaced, joint-at, joint, leading-at, leading}
+use Rattle.label.specs.Bytes.{space, slash}
+use Rattle.label.specs.Choice.{pick}
+use Rattle.label.specs.Parse.{stop, times, padded, spaced, joint-at, joint, leading-at, leading}
+use Rattle.label.proofs.Basics.{false-true}
 use Rattle.scan.specs.Runs.{Run, is-space}
 use Rattle.symbols.proofs.Parts.{here, beyond}
+use Rattle.tokens.proofs.Readers.{by-byte, byte-tested, byte-and}
 use Rattle.descent.specs.declared.joint.Joint.{Joint as Joined}
-use Rattle.label.proofs.Basics.{false-true}
 use Rattle.descent.specs.Joints.{separates, Pads, Joins, Spaces, Leads, slashed, Slashes}
 
 module _ {r : Rules} {s : List ℕ} {at : ℕ} where
-  pub padded₁ : {e : ℕ} → r .spaces ≡ true → Run is-space s at e → Pads r s at e
+  pub pads-spaces : {e : ℕ} → r .spaces ≡ true → Run is-space s at e → Pads r s at e
   unfolding padded
-  padded₁ f w = record { rest = rw f (w .rest); from = w .from; within = w .within }
+  pads-spaces f w = record { rest = rw f (w .rest); from = w .from; within = w .within }
 
-  pub padded₂ : r .spaces ≡ false → at ≤ length s → Pads r s at at
+  pub pads-nothing : r .spaces ≡ false → at ≤ length s → Pads r s at at
   unfolding padded
-  padded₂ f h = record { rest = rw f; from = omega arith; within = h }
+  pads-nothing f h = record { rest = rw f; from = omega arith; within = h }
+
+-- a byte that is tested for, where the flag b is set, is in the text
+pub tested-room : (s : List ℕ) (at c : ℕ) (b : Bool) {x : ℕ} {t : Bool} → x ≡ getD s at 0 → t ≡ (eqb x c && b) → t ≡ true → 0 < c → at + 1 ≤ length s
+tested-room s at c b h e q l = omega (arith, byte-tested s at c b l (byte-and c b h e q))
+
+-- SPACES
 
 abbrev no-joint : ℕ → Joined
 no-joint at = record { found = false; over = false; next = at }
 
-module _ {r : Rules} {s : List ℕ} {at : ℕ} where
-  pub spaced₁ : at ≤ length s → length s ≤ at → Spaces r s at (no-joint at)
-  unfolding spaced
-  spaced₁ g h = record { tied = record { is = rw (beyond s at h); after = λ e. absurd (false-true e); within = g } }
+spaced-is : (r : Rules) (s : List ℕ) (at : ℕ) → spaced r (drop at s) ≡ pick (eqb (getD s at 0) space && r .space) (times (padded r (drop (at + 1) s))) stop
+unfolding spaced
+spaced-is r s at = by-byte (spaced r) (λ c w u. pick (eqb c space && r .space) (times (padded r u)) stop) (λ c u. refl) refl s at
 
-  module _ {x : Bool} (h : at < length s) (e : x ≡ (eqb (getD s at 0) 32 && r .space)) where
-    pub spaced₂ : {p : ℕ} → x ≡ true → Pads r s (at + 1) p → Spaces r s at (record { found = true; over = false; next = p })
-    unfolding spaced
-    spaced₂ t w = record { tied = record { is = rw (here s at h, sym e ∙ t, w .rest); after = λ _. omega (arith, w .from); within = w .within } }
+module _ {r : Rules} {s : List ℕ} {at c : ℕ} {x : Bool} (h : c ≡ getD s at 0) (e : x ≡ (eqb c space && r .space)) where
+  pub spaces-join : {p : ℕ} → x ≡ true → Pads r s (at + 1) p → Spaces r s at (record { found = true; over = false; next = p })
+  spaces-join t w = record { tied = record { is = rw (spaced-is r s at, ← h, sym e ∙ t, w .rest); after = λ _. omega (arith, w .from); within = w .within } }
 
-    pub spaced₃ : x ≡ false → Spaces r s at (no-joint at)
-    unfolding spaced
-    spaced₃ t = record { tied = record { is = rw (here s at h, sym e ∙ t); after = λ q. absurd (false-true q); within = omega arith } }
+  pub no-space-joins : x ≡ false → at ≤ length s → Spaces r s at (no-joint at)
+  no-space-joins t l = record { tied = record { is = rw (spaced-is r s at, ← h, sym e ∙ t); after = λ q. absurd (false-true q); within = l } }
 
--- the text behind the spaces
-padded-end : (r : Rules) (s : List ℕ) (at p : ℕ) → Pads r s at p → length s ≤ p → padded r (drop at s) ≡ []
-padded-end r s at p w h = sym (w .rest) ∙ beyond s p h
-
-padded-here : (r : Rules) (s : List ℕ) (at p : ℕ) → Pads r s at p → p < length s → padded r (drop at s) ≡ getD s p 0 ∷ drop (p + 1) s
-padded-here r s at p w h = sym (w .rest) ∙ here s p h
+-- SEPARATORS AND SLASHES
 
 module _ {r : Rules} {s : List ℕ} {at p : ℕ} (w : Pads r s at p) where
-  pub joint₁ : length s ≤ p → Joins r s at (no-joint at)
+  pub end-joins-nothing : length s ≤ p → Joins r s at (no-joint at)
   unfolding joint joint-at
-  joint₁ h = record { tied = record { is = rw (padded-end r s at p w h); after = λ e. absurd (false-true e); within = omega (arith, w .from, w .within) } }
+  end-joins-nothing h = record { tied = record { is = rw (← w .rest, beyond s p h); after = λ e. absurd (false-true e); within = omega (arith, w .from, w .within) } }
 
-  pub leading₁ : length s ≤ p → Leads r s at (record { found = false; next = at })
-  unfolding leading leading-at
-  leading₁ h = record { is = rw (padded-end r s at p w h); from = omega arith; stays = λ _. refl; within = omega (arith, w .from, w .within) }
-
-  module _ (h : p < length s) where
-    pub joint₂ : {x : Bool} {q : ℕ} → x ≡ separates r (getD s p 0) → x ≡ true → Pads r s (p + 1) q → Joins r s at (record { found = true; over = false; next = q })
+  module _ (h : p < length s) {x : Bool} (e : x ≡ separates r (getD s p 0)) where
+    pub separator-joins : {q : ℕ} → x ≡ true → Pads r s (p + 1) q → Joins r s at (record { found = true; over = false; next = q })
     unfolding joint joint-at
-    joint₂ e t v = record { tied = record { is = rw (padded-here r s at p w h, sym e ∙ t, v .rest); after = λ _. omega (arith, w .from, v .from); within = v .within } }
+    separator-joins t v = record { tied = record { is = rw (← w .rest, here s p h, sym e ∙ t, v .rest); after = λ _. omega (arith, w .from, v .from); within = v .within } }
 
-    module _ {x : Bool} (e : x ≡ separates r (getD s p 0)) (t : x ≡ false) where
-      pub joint₃ : {y : Bool} {q : ℕ} → y ≡ (eqb (getD s p 0) 47 && r .each) → y ≡ true → Pads r s (p + 1) q → Joins r s at (record { found = true; over = true; next = q })
+    module _ (t : x ≡ false) {y : Bool} (f : y ≡ (eqb (getD s p 0) slash && r .each)) where
+      pub slash-joins : {q : ℕ} → y ≡ true → Pads r s (p + 1) q → Joins r s at (record { found = true; over = true; next = q })
       unfolding joint joint-at
-      joint₃ f u v = record { tied = record { is = rw (padded-here r s at p w h, sym e ∙ t, sym f ∙ u, v .rest); after = λ _. omega (arith, w .from, v .from); within = v .within } }
+      slash-joins u v = record {
+        tied = record { is = rw (← w .rest, here s p h, sym e ∙ t, sym f ∙ u, v .rest); after = λ _. omega (arith, w .from, v .from); within = v .within };
+      }
 
-      pub joint₄ : {y : Bool} {o : Joined} → y ≡ (eqb (getD s p 0) 47 && r .each) → y ≡ false → Spaces r s at o → Joins r s at o
+      pub spaces-alone-join : {o : Joined} → y ≡ false → Spaces r s at o → Joins r s at o
       unfolding joint joint-at
-      joint₄ f u v = record { tied = record { is = rw (padded-here r s at p w h, sym e ∙ t, sym f ∙ u) (v .tied .is); after = v .tied .after; within = v .tied .within } }
+      spaces-alone-join u v = record { tied = record { is = rw (← w .rest, here s p h, sym e ∙ t, sym f ∙ u) (v .tied .is); after = v .tied .after; within = v .tied .within } }
 
-    pub leading₂ : {y : Bool} {q : ℕ} → y ≡ (eqb (getD s p 0) 47 && r .each) → y ≡ true → Pads r s (p + 1) q → Leads r s at (record { found = true; next = q })
-    unfolding leading leading-at
-    leading₂ f u v = record { is = rw (padded-here r s at p w h, sym f ∙ u, v .rest); from = omega (arith, w .from, v .from); stays = λ e. absurd (false-true (sym e)); within = v .within }
+-- THE LEADING SLASH
 
-    pub leading₃ : {y : Bool} → y ≡ (eqb (getD s p 0) 47 && r .each) → y ≡ false → Leads r s at (record { found = false; next = at })
-    unfolding leading leading-at
-    leading₃ f u = record { is = rw (padded-here r s at p w h, sym f ∙ u); from = omega arith; stays = λ _. refl; within = omega (arith, w .from) }
+module _ {r : Rules} {s : List ℕ} {at p : ℕ} (w : Pads r s at p) where
+  leading-is : leading r (drop at s) ≡ pick (eqb (getD s p 0) slash && r .each) (some (padded r (drop (p + 1) s))) none
+  unfolding leading leading-at
+  leading-is = rw (← w .rest) (by-byte (leading-at r) (λ c v u. pick (eqb c slash && r .each) (some (padded r u)) none) (λ c u. refl) refl s p)
+
+  module _ {c : ℕ} {x : Bool} (h : c ≡ getD s p 0) (e : x ≡ (eqb c slash && r .each)) where
+    pub slash-leads : {q : ℕ} → x ≡ true → Pads r s (p + 1) q → Leads r s at (record { found = true; next = q })
+    slash-leads t v = record { is = rw (leading-is, ← h, sym e ∙ t, v .rest); from = omega (arith, w .from, v .from); stays = λ q. absurd (false-true (sym q)); within = v .within }
+
+    pub no-slash-leads : x ≡ false → Leads r s at (record { found = false; next = at })
+    no-slash-leads t = record { is = rw (leading-is, ← h, sym e ∙ t); from = omega arith; stays = λ _. refl; within = omega (arith, w .from, w .within) }
 
 -- THE LAST SLASH
 
+pub slashed-is : (r : Rules) (s : List ℕ) (at : ℕ) → slashed r (drop at s) ≡ (eqb (getD s at 0) slash && not (r .each))
+unfolding slashed
+slashed-is r s at = by-byte (slashed r) (λ c w u. eqb c slash && not (r .each)) (λ c u. refl) refl s at
+
 module _ {r : Rules} {s : List ℕ} {at : ℕ} {over : Bool} where
-  pub last₁ : not over ≡ true → Slashes r over s at false
-  last₁ e = record { is = rw (not-true over e) }
+  pub no-slash-allowed : not over ≡ true → Slashes r over s at false
+  no-slash-allowed e = record { is = rw (not-true over e) }
 
-  pub last₂ : not over ≡ false → length s ≤ at → Slashes r over s at false
-  unfolding slashed
-  last₂ e h = record { is = rw (not-false over e, beyond s at h) }
-
-  pub last₃ : {x : Bool} → not over ≡ false → at < length s → x ≡ (eqb (getD s at 0) 47 && not (r .each)) → Slashes r over s at x
-  unfolding slashed
-  last₃ e h q = record { is = rw (not-false over e, here s at h) q }
+  pub slash-allowed : {c : ℕ} {x : Bool} → not over ≡ false → c ≡ getD s at 0 → x ≡ (eqb c slash && not (r .each)) → Slashes r over s at x
+  slash-allowed e h q = record { is = rw (not-false over e, slashed-is r s at, ← h) q }

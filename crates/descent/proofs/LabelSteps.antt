@@ -11,6 +11,7 @@ use Rattle.label.specs.declared.Rules.{Rules}
 use Rattle.label.specs.declared.WrittenFactor.{WrittenFactor}
 use Rattle.label.specs.declared.WrittenFactor.the-variants.{Absent}
 use Rattle.label.specs.Bytes.{slash, space, digit}
+use Rattle.label.specs.Choice.{pick}
 use Rattle.label.specs.Lexical.{no-factor, Part, Kind, item, quotient}
 use Rattle.label.specs.Parse.{Found, none, found, factor, Parsed, refused, parsed, ended, one-space, gap, factored, label-by, fuel, read, parse-by}
 use Rattle.label.specs.Ranges.{factor-in, FactorInside}
@@ -19,6 +20,7 @@ use Rattle.scan.specs.Runs.{Run, is-space}
 use Rattle.symbols.proofs.Parts.{here, beyond}
 use Rattle.tokens.specs.declared.factor.FactorAt.{FactorAt}
 use Rattle.tokens.specs.Answers.{ReadsFactor}
+use Rattle.tokens.proofs.Readers.{by-byte, byte-found, byte-is}
 use Rattle.descent.specs.declared.whole.LabelRead.{LabelRead}
 use Rattle.descent.specs.Terms.{Lent, Empty}
 use Rattle.descent.specs.Steps.{Ready, Stepped}
@@ -26,53 +28,55 @@ use Rattle.descent.specs.Labels.{OneSpace, Gaps, no-label, Ended, Tells,
 use Rattle.descent.proofs.TermSteps.{holds-none}
 use Rattle.descent.proofs.StepLaws.{rank-most}
 
--- THE GAP BEHIND A FACTOR
+-- THE GAP AFTER A FACTOR
 
-module _ {s : List ℕ} {at : ℕ} where
-  pub one-space₁ : at ≤ length s → length s ≤ at → OneSpace s at at
-  unfolding one-space
-  one-space₁ h g = record { rest = rw (beyond s at g); from = omega arith; within = h }
+one-space-is : (s : List ℕ) (at : ℕ) → one-space (drop at s) ≡ pick (eqb (getD s at 0) space) (drop (at + 1) s) (drop at s)
+unfolding one-space
+one-space-is s at = by-byte one-space (λ c w u. pick (eqb c space) u w) (λ c u. refl) refl s at
 
-  pub one-space₂ : at < length s → getD s at 0 ≡ space → OneSpace s at (at + 1)
-  unfolding one-space
-  one-space₂ h e = record { rest = sym (ap one-space (here s at h) ∙ (rw e)); from = omega arith; within = omega arith }
+module _ {s : List ℕ} {at c : ℕ} (h : c ≡ getD s at 0) where
+  pub space-passed : c ≡ space → OneSpace s at (at + 1)
+  space-passed e = record {
+    rest = rw (one-space-is s at, ← h, e);
+    from = omega arith;
+    within = omega (arith, byte-found s at space (omega arith) (byte-is h e));
+  }
 
-  pub one-space₃ : at < length s → (getD s at 0 ≡ space → ⊥) → OneSpace s at at
-  unfolding one-space
-  one-space₃ h e = record { rest = here s at h ∙ sym (ap one-space (here s at h) ∙ (rw (ne-eqb _ _ e))); from = omega arith; within = omega arith }
+  pub no-space-passed : (c ≡ space → ⊥) → at ≤ length s → OneSpace s at at
+  no-space-passed n l = record { rest = rw (one-space-is s at, ← h, ne-eqb c space n); from = omega arith; within = l }
 
 module _ {r : Rules} {s : List ℕ} {at : ℕ} where
-  pub gap₁ : {o : ℕ} → r .spaces ≡ true → Run is-space s at o → Gaps r s at o
+  pub gap-of-spaces : {o : ℕ} → r .spaces ≡ true → Run is-space s at o → Gaps r s at o
   unfolding gap
-  gap₁ e w = record { rest = rw e (w .rest); from = w .from; within = w .within }
+  gap-of-spaces e w = record { rest = rw e (w .rest); from = w .from; within = w .within }
 
-  pub gap₂ : {o : ℕ} → r .spaces ≡ false → r .space ≡ true → OneSpace s at o → Gaps r s at o
+  pub gap-of-one-space : {o : ℕ} → r .spaces ≡ false → r .space ≡ true → OneSpace s at o → Gaps r s at o
   unfolding gap
-  gap₂ e f w = record { rest = rw (e, f) (w .rest); from = w .from; within = w .within }
+  gap-of-one-space e f w = record { rest = rw (e, f) (w .rest); from = w .from; within = w .within }
 
-  pub gap₃ : r .spaces ≡ false → r .space ≡ false → at ≤ length s → Gaps r s at at
+  pub gap-of-nothing : r .spaces ≡ false → r .space ≡ false → at ≤ length s → Gaps r s at at
   unfolding gap
-  gap₃ e f h = record { rest = rw (e, f); from = omega arith; within = h }
+  gap-of-nothing e f h = record { rest = rw (e, f); from = omega arith; within = h }
 
 -- THE END
 
 module _ {s : List ℕ} {f : WrittenFactor} {p : ℕ} where
-  pub ended₁ : {o : LabelRead} → o ≡ no-label → p ≤ length s → Ended s f p o
+  pub text-left : {o : LabelRead} → o ≡ no-label → p ≤ length s → Ended s f p o
   unfolding ended
-  ended₁ e h = rw e (record { is = λ x ps. go p h x; good = λ y. absurd (false-true y); inside = λ i. tt })
+  text-left e h = rw e (record { is = λ x ps. go p h x; good = λ y. absurd (false-true y); inside = λ i. tt })
     where
       go : (q : ℕ) → q ≤ length s → (x : Found (List Part)) {ps : List Part} → (q ≡ 0 → x ≡ none) → (0 < q → x ≡ found ps (drop (q - 1) s)) → ended (factor-in s f) x ≡ refused
       go zero l x m n = rw (m refl)
       go (suc q) l x m n = rw (n (omega arith), here s (suc q - 1) (omega arith))
 
-  pub ended₂ : length s < p → Ended s f p (record { ok = true; factor = f })
+  pub text-ends : length s < p → Ended s f p (record { ok = true; factor = f })
   unfolding ended
-  ended₂ h = record { is = λ x ps m n. rw (n (omega arith), beyond s (p - 1) (omega arith)); good = λ _. omega arith; inside = λ i. i }
+  text-ends h = record { is = λ x ps m n. rw (n (omega arith), beyond s (p - 1) (omega arith)); good = λ _. omega arith; inside = λ i. i }
 
 -- A READING THAT ENDS THE LABEL
 
-pub ready-first : {s : List ℕ} {at : ℕ} {t : Lent} → Empty t → at ≤ length s → Ready s at t
-ready-first w g = record { within = g; few = omega (arith, w .counts); room = w .room }
+pub ready-empty : {s : List ℕ} {at : ℕ} {t : Lent} → Empty t → at ≤ length s → Ready s at t
+ready-empty w g = record { within = g; few = omega (arith, w .counts); room = w .room }
 
 -- from no term on, the terms read are the label's
 tells-ended : (x : Kind) (r : Rules) (b : Bool) (s : List ℕ) (at : ℕ) (t u : Lent) (f : WrittenFactor) (p : ℕ) (o : LabelRead) (y : Parsed)
@@ -87,14 +91,14 @@ tells-ended x r b s at t u f p o y w i a v e = record {
 -- LABELS WITH A FACTOR
 
 module _ {r : Rules} {s : List ℕ} {f : FactorAt} (w : ReadsFactor (factor r (drop 0 s)) s 0 f) where
-  pub factored₁ : {t : Lent} {o : LabelRead} → o ≡ no-label → not (f .ok) ≡ true → ReadsFactored r s t o
+  pub no-factor-read : {t : Lent} {o : LabelRead} → o ≡ no-label → not (f .ok) ≡ true → ReadsFactored r s t o
   unfolding factored
-  factored₁ q e = rw q (record { tells = record { parts = []; is = rw (w .is, not-true (f .ok) e); holds = λ x. absurd (false-true x); inside = tt } })
+  no-factor-read q e = rw q (record { tells = record { parts = []; is = rw (w .is, not-true (f .ok) e); holds = λ x. absurd (false-true x); inside = tt } })
 
-  pub factored₂ : {n p : ℕ} {t u : Lent} {o : LabelRead} → not (f .ok) ≡ false → Gaps r s (f .next) n → Empty t → Stepped quotient r false s n t u p
+  pub factor-read : {n p : ℕ} {t u : Lent} {o : LabelRead} → not (f .ok) ≡ false → Gaps r s (f .next) n → Empty t → Stepped quotient r false s n t u p
       → Ended s (f .factor) p o → ReadsFactored r s u o
   unfolding factored
-  factored₂ {n} {p} {t} {u} {o} e g y a v = record {
+  factor-read {n} {p} {t} {u} {o} e g y a v = record {
     tells = tells-ended quotient r false s n t u (f .factor) p o _ y (w .inside) a v
         (ap (factored (λ u. read r (fuel s) quotient false u) r) (w .is) ∙ (rw (not-false (f .ok) e, g .rest)));
   }
@@ -133,19 +137,19 @@ digit-factor : (c : ℕ) (f : Bool) {x y : Bool} → x ≡ digit c → y ≡ (x 
 digit-factor c f k d = d ∙ ap (λ (b : Bool). b && f) k
 
 module _ {r : Rules} {s : List ℕ} where
-  pub label₁ : {t : Lent} → length s ≡ 0 → Empty t → ReadsLabel r s t (record { ok = true; factor = Absent })
+  pub label-empty : {t : Lent} → length s ≡ 0 → Empty t → ReadsLabel r s t (record { ok = true; factor = Absent })
   unfolding parse-by
-  label₁ h w = record { tells = record { parts = []; is = by-nothing r _ _ s h; holds = λ _. holds-none w s; inside = tt } }
+  label-empty h w = record { tells = record { parts = []; is = by-nothing r _ _ s h; holds = λ _. holds-none w s; inside = tt } }
 
   module _ (h : length s ≡ 0 → ⊥) where
-    pub label₂ : {t : Lent} {o : LabelRead} → getD s 0 0 ≡ space → o ≡ no-label → ReadsLabel r s t o
+    pub label-from-space : {t : Lent} {o : LabelRead} → getD s 0 0 ≡ space → o ≡ no-label → ReadsLabel r s t o
     unfolding parse-by
-    label₂ e q = rw q (record { tells = record { parts = []; is = by-space r _ _ s (omega arith) e; holds = λ x. absurd (false-true x); inside = tt } })
+    label-from-space e q = rw q (record { tells = record { parts = []; is = by-space r _ _ s (omega arith) e; holds = λ x. absurd (false-true x); inside = tt } })
 
     module _ (n : getD s 0 0 ≡ space → ⊥) {x y : Bool} (k : x ≡ digit (getD s 0 0)) (d : y ≡ (x && r .factor)) where
-      pub label₃ : {t : Lent} {o : LabelRead} → y ≡ true → ReadsFactored r s t o → ReadsLabel r s t o
+      pub label-from-factor : {t : Lent} {o : LabelRead} → y ≡ true → ReadsFactored r s t o → ReadsLabel r s t o
       unfolding parse-by
-      label₃ e w = record {
+      label-from-factor e w = record {
         tells = record {
           parts = w .tells .parts;
           is = by-digit r _ _ s (omega arith) n (sym (digit-factor (getD s 0 0) (r .factor) k d) ∙ e) ∙ w .tells .is;
@@ -155,10 +159,10 @@ module _ {r : Rules} {s : List ℕ} where
       }
 
       module _ (e : y ≡ false) {b : Bool} (q : b ≡ (eqb (getD s 0 0) slash && r .lead)) where
-        pub label₄ : {t u : Lent} {p : ℕ} {o : LabelRead} → b ≡ true → Empty t → Stepped item r true s 1 t u p → Ended s Absent p o → ReadsLabel r s u o
+        pub label-from-slash : {t u : Lent} {p : ℕ} {o : LabelRead} → b ≡ true → Empty t → Stepped item r true s 1 t u p → Ended s Absent p o → ReadsLabel r s u o
         unfolding parse-by
-        label₄ {t} {u} {p} {o} z w a v = record { tells = tells-ended item r true s 1 t u Absent p o _ w tt a v (by-slash r _ _ s (omega arith) n (sym (digit-factor (getD s 0 0) (r .factor) k d) ∙ e) (sym q ∙ z)) }
+        label-from-slash {t} {u} {p} {o} z w a v = record { tells = tells-ended item r true s 1 t u Absent p o _ w tt a v (by-slash r _ _ s (omega arith) n (sym (digit-factor (getD s 0 0) (r .factor) k d) ∙ e) (sym q ∙ z)) }
 
-        pub label₅ : {t u : Lent} {p : ℕ} {o : LabelRead} → b ≡ false → Empty t → Stepped quotient r false s 0 t u p → Ended s Absent p o → ReadsLabel r s u o
+        pub label-from-product : {t u : Lent} {p : ℕ} {o : LabelRead} → b ≡ false → Empty t → Stepped quotient r false s 0 t u p → Ended s Absent p o → ReadsLabel r s u o
         unfolding parse-by
-        label₅ {t} {u} {p} {o} z w a v = record { tells = tells-ended quotient r false s 0 t u Absent p o _ w tt a v (by-rest r _ _ s (omega arith) n (sym (digit-factor (getD s 0 0) (r .factor) k d) ∙ e) (sym q ∙ z)) }
+        label-from-product {t} {u} {p} {o} z w a v = record { tells = tells-ended quotient r false s 0 t u Absent p o _ w tt a v (by-rest r _ _ s (omega arith) n (sym (digit-factor (getD s 0 0) (r .factor) k d) ∙ e) (sym q ∙ z)) }

@@ -4,22 +4,22 @@ use native.Mathlib.Omega.{arith}
 use mathlib.Core.Path.{_≡_, refl, sym, ap, _∙_}
 use mathlib.Core.Bool.{Bool, true, false, _&&_, not}
 use mathlib.Core.List.{List, [], _∷_, _++_, append-assoc, append-nil}
+use lib.Dec.{eqb}
 use lib.ListN.{length, drop, getD, length-drop}
 use borrow.Author.Tests.{ne-eqb, not-true, not-false}
 use Rattle.label.specs.declared.Rules.{Rules}
 use Rattle.label.specs.Choice.{pick}
 use Rattle.label.specs.Lexical.{Part, Kind, item, more, product, quotient}
 use Rattle.label.specs.Limits.{exponent-of}
-use Rattle.label.specs.Bytes.{close-bracket}
-use Rattle.label.specs.Parse.{Found, none, found, then, mapped, closed, exponent, unit, appended, chained, item-at, item-by, more-at, product-at, quotient-on, inside, read}
+use Rattle.label.specs.Bytes.{open-bracket, close-bracket, slash}
+use Rattle.label.specs.Parse.{Found, none, found, then, mapped, closed, exponent, spelling, unit, appended, chained, item-at, item-by, more-at, product-at, quotient-on, inside, read}
 use Rattle.label.specs.Ranges.{between, written-in}
 use Rattle.label.proofs.Basics.{false-true}
 use Rattle.scan.specs.Spellings.{Spelled}
 use Rattle.scan.specs.declared.spelling.Spelling.{Spelling}
-use Rattle.symbols.proofs.Parts.{here, beyond}
 use Rattle.tokens.specs.declared.power.PowerAt.{PowerAt}
 use Rattle.tokens.specs.Answers.{begins, ReadsPower}
-use Rattle.tokens.proofs.Readers.{byte-no-close, begins-room, close-found}
+use Rattle.tokens.proofs.Readers.{by-byte, byte-found, byte-tested, byte-is, byte-no-close, begins-room, close-found}
 use Rattle.values.specs.declared.powers.MaybeExponent.{MaybeExponent}
 use Rattle.values.specs.Given.{given}
 use Rattle.descent.specs.declared.joint.Joint.{Joint as Joined}
@@ -28,6 +28,7 @@ use Rattle.descent.specs.Terms.{Lent, Kept}
 use Rattle.descent.specs.Joints.{turned-by, joint-by, Joins, leading-by, Leads, slashed, Slashes}
 use Rattle.descent.specs.Steps.{Ready, Reads, rank, least, fuel-at, kind, Stepped, Chained, Grouped, ReadsUnit}
 use Rattle.descent.proofs.TermSteps.{holds-more}
+use Rattle.descent.proofs.JointSteps.{slashed-is}
 
 -- READINGS
 
@@ -89,20 +90,20 @@ above P f (suc k) h = f k (omega arith)
 -- UNITS
 
 module _ {r : Rules} {b : Bool} {s : List ℕ} {at : ℕ} {t : Lent} {w : Spelling} where
-  pub unit₁ : Spelled r s at w → not (w .ok) ≡ true → ReadsUnit r b s at t t 0
+  pub unit-unspelled : Spelled r s at w → not (w .ok) ≡ true → ReadsUnit r b s at t t 0
   unfolding unit then
-  unit₁ v e = record { reads = nothing-read (λ k h. rw (v .is, not-true (w .ok) e)) }
+  unit-unspelled v e = record { reads = nothing-read (λ k h. rw (v .is, not-true (w .ok) e)) }
 
   module _ {p : PowerAt} (v : Spelled r s at w) (e : not (w .ok) ≡ false) (q : ReadsPower (exponent r (drop (w .end) s)) s (w .end) p) where
-    pub unit₂ : not (p .ok) ≡ true → ReadsUnit r b s at t t 0
+    pub unit-unpowered : not (p .ok) ≡ true → ReadsUnit r b s at t t 0
     unfolding unit then mapped
-    unit₂ f = record { reads = nothing-read (λ k h. rw (v .is, not-false (w .ok) e, q .is, not-true (p .ok) f)) }
+    unit-unpowered f = record { reads = nothing-read (λ k h. rw (v .is, not-false (w .ok) e, q .is, not-true (p .ok) f)) }
 
-    pub unit₃ : {m : MaybeExponent} {u : Lent} → Ready s at t → not (p .ok) ≡ false
+    pub unit-read : {m : MaybeExponent} {u : Lent} → Ready s at t → not (p .ok) ≡ false
         → given (m .ok) (m .exponent) ≡ exponent-of b (written-in s (p .power))
         → Kept t at (w .end) (m .exponent .0) (m .ok) u → ReadsUnit r b s at t u (p .next + 1)
     unfolding unit then mapped
-    unit₃ g f x y =
+    unit-read g f x y =
         let far = v .ahead (not-false (w .ok) e) in
         let back : p .next + 1 - 1 ≡ p .next = omega arith in
         record {
@@ -143,17 +144,17 @@ module _ {r : Rules} {b : Bool} {s : List ℕ} {at : ℕ} {t u : Lent} {p : ℕ}
   inside-read : {x : Found (List Part)} (k : ℕ) → read r k (kind (r .within)) b (drop at s) ≡ x → closed (λ ps. ps) (read r k (inside r) b (drop at s)) ≡ closed (λ ps. ps) x
   inside-read k e = rw (inside-is r, e)
 
-  pub group₁ : p ≡ 0 → Grouped r b s at t u 0
+  pub group-of-nothing : p ≡ 0 → Grouped r b s at t u 0
   unfolding closed then
-  group₁ e = record { reads = nothing-read (λ k h. inside-read k (a .reads .misses e k (omega (arith, rank-most (kind (r .within)))))) }
+  group-of-nothing e = record { reads = nothing-read (λ k h. inside-read k (a .reads .misses e k (omega (arith, rank-most (kind (r .within)))))) }
 
   module _ {x : Bool} (e : p ≡ 0 → ⊥) (q : x ≡ begins close-bracket (drop (p - 1) s)) where
     inside-found : (k : ℕ) → fuel-at s at + 2 < k → closed (λ ps. ps) (read r k (inside r) b (drop at s)) ≡ closed (λ (ps : List Part). ps) (found (a .reads .parts) (drop (p - 1) s))
     inside-found k h = inside-read k (a .reads .is (omega arith) k (omega (arith, rank-most (kind (r .within)))))
 
-    pub group₂ : x ≡ true → Grouped r b s at t u (p + 1)
+    pub group-closed : x ≡ true → Grouped r b s at t u (p + 1)
     unfolding closed then
-    group₂ y =
+    group-closed y =
         let there : p - 1 + 1 ≡ p + 1 - 1 = omega arith in
         let w = a .reads .ready (omega arith) in
         record {
@@ -167,28 +168,30 @@ module _ {r : Rules} {b : Bool} {s : List ℕ} {at : ℕ} {t u : Lent} {p : ℕ}
           };
         }
 
-    pub group₃ : x ≡ false → Grouped r b s at t u 0
+    pub group-unclosed : x ≡ false → Grouped r b s at t u 0
     unfolding closed then
-    group₃ y = record { reads = nothing-read (λ k h. inside-found k h ∙ byte-no-close s (p - 1) (a .reads .parts) (sym q ∙ y)) }
+    group-unclosed y = record { reads = nothing-read (λ k h. inside-found k h ∙ byte-no-close s (p - 1) (a .reads .parts) (sym q ∙ y)) }
 
 -- ITEMS
 
-module _ {r : Rules} {b : Bool} {s : List ℕ} {at : ℕ} {t : Lent} where
-  pub item₁ : length s ≤ at → Stepped item r b s at t t 0
-  unfolding read item-by
-  item₁ g = record { reads = nothing-read (above _ (λ k h. rw (beyond s at g))) }
+item-is : (r : Rules) (b : Bool) (f : List ℕ → Found (List Part)) (s : List ℕ) (at : ℕ)
+    → item-by r b f (drop at s) ≡ item-at (eqb (getD s at 0) open-bracket) r b f (drop at s) (drop (at + 1) s)
+unfolding item-by item-at unit spelling then
+item-is r b f s at = by-byte (item-by r b f) (λ c w u. item-at (eqb c open-bracket) r b f w u) (λ c u. refl) refl s at
 
-  module _ {u : Lent} {o : ℕ} (l : at < length s) where
-    pub item₂ : getD s at 0 ≡ 40 → Grouped r b s (at + 1) t u o → Stepped item r b s at t u o
-    unfolding read item-by item-at
-    item₂ e a = record { reads = same-read (omega arith) (above _ (λ k h. (k, omega arith, rw (here s at l, e)))) (a .reads) }
+module _ {r : Rules} {b : Bool} {s : List ℕ} {at c : ℕ} {t u : Lent} {o : ℕ} (h : c ≡ getD s at 0) where
+  pub item-group : c ≡ open-bracket → Grouped r b s (at + 1) t u o → Stepped item r b s at t u o
+  unfolding read item-at
+  item-group e a =
+      let l = byte-found s at open-bracket (omega arith) (byte-is h e) in
+      record { reads = same-read (omega arith) (above _ (λ k g. (k, omega arith, rw (item-is r b (λ v. read r k (inside r) b v) s at, ← h, e)))) (a .reads) }
 
-    pub item₃ : (getD s at 0 ≡ 40 → ⊥) → ReadsUnit r b s at t u o → Stepped item r b s at t u o
-    unfolding read item-by item-at
-    item₃ e a = record { reads = same-read (omega arith) (above _ (λ k h. (1, omega arith, rw (here s at l, ne-eqb _ _ e)))) (a .reads) }
+  pub item-unit : (c ≡ open-bracket → ⊥) → ReadsUnit r b s at t u o → Stepped item r b s at t u o
+  unfolding read item-at
+  item-unit n a = record { reads = same-read (omega arith) (above _ (λ k g. (1, omega arith, rw (item-is r b (λ v. read r k (inside r) b v) s at, ← h, ne-eqb c open-bracket n)))) (a .reads) }
 
-pub ready-on : {s : List ℕ} {at : ℕ} {t : Lent} → Ready s at t → at < length s → Ready s (at + 1) t
-ready-on w h = record { within = omega arith; few = omega (arith, w .few); room = w .room }
+pub ready-inside : {s : List ℕ} {at c : ℕ} {t : Lent} → c ≡ getD s at 0 → c ≡ open-bracket → Ready s at t → Ready s (at + 1) t
+ready-inside {s} {at} h e w = record { within = omega (arith, byte-found s at open-bracket (omega arith) (byte-is h e)); few = omega (arith, w .few); room = w .room }
 
 -- WHAT FOLLOWS AN ITEM
 
@@ -232,10 +235,10 @@ more-none r b s at j k ps w e = rw (w .tied .is, e, append-nil ps)
 
 -- THE LAST SLASH
 
-slashed-room : (r : Rules) (s : List ℕ) → slashed r s ≡ true → 0 < length s
-unfolding slashed
-slashed-room r [] e = absurd (false-true e)
-slashed-room r (c ∷ s) e = omega arith
+quotient-is : (r : Rules) (f : List ℕ → Found (List Part)) (ps : List Part) (s : List ℕ) (at : ℕ)
+    → quotient-on r f ps (drop at s) ≡ pick (slashed r (drop at s)) (appended ps (f (drop (at + 1) s))) (found ps (drop at s))
+unfolding quotient-on
+quotient-is r f ps s at = rw (slashed-is r s at) (by-byte (quotient-on r f ps) (λ c w u. pick (eqb c slash && not (r .each)) (appended ps (f u)) (found ps w)) (λ c u. refl) refl s at)
 
 module _ {r : Rules} {over x : Bool} {s : List ℕ} {at : ℕ} (w : Slashes r over s at x) (e : x ≡ true) where
   over-slash : over ≡ true
@@ -249,16 +252,7 @@ module _ {r : Rules} {over x : Bool} {s : List ℕ} {at : ℕ} (w : Slashes r ov
   is-slashed = rw over-slash at (sym (w .is) ∙ e)
 
   slash-room : at < length s
-  slash-room = omega (arith, slashed-room r (drop at s) is-slashed, length-drop at s)
-
-  quotient-more : (f : List ℕ → Found (List Part)) (ps : List Part) → quotient-on r f ps (drop at s) ≡ appended ps (f (drop (at + 1) s))
-  unfolding quotient-on slashed
-  quotient-more f ps = rw (here s at slash-room, rw (here s at slash-room) at is-slashed)
-
-quotient-none : (r : Rules) (f : List ℕ → Found (List Part)) (ps : List Part) (u : List ℕ) → slashed r u ≡ false → quotient-on r f ps u ≡ found ps u
-unfolding quotient-on slashed
-quotient-none r f ps [] e = refl
-quotient-none r f ps (c ∷ u) e = rw e
+  slash-room = byte-tested s at slash (not (r .each)) (omega arith) (sym (slashed-is r s at) ∙ is-slashed)
 
 -- A PRODUCT, TURN BY TURN
 
@@ -335,7 +329,7 @@ module _ {r : Rules} {b d : Bool} {s : List ℕ} {at from i : ℕ} {t u v : Lent
           go false q = product-ends
           go true q = record {
             reads = more-read (product-ends .reads) (omega arith) (omega arith) (above _ (λ k h. (
-                quotient-by k h ∙ quotient-none r (λ z. read r k item (not b) z) (product-ends .reads .parts) (drop (i - 1) s) (rw q at (sym (m .is) ∙ y)))));
+                quotient-by k h ∙ quotient-is r (λ z. read r k item (not b) z) (product-ends .reads .parts) s (i - 1) ∙ (rw (rw q at (sym (m .is) ∙ y))))));
           }
 
       pub turn-over : {n : Lent} {o : ℕ} → x ≡ true → Stepped item r (not b) s i v n o → Stepped (kind over) r b s at t n o
@@ -346,7 +340,7 @@ module _ {r : Rules} {b d : Bool} {s : List ℕ} {at from i : ℕ} {t u v : Lent
             reads = then-read (product-ends .reads) (omega arith) (omega arith) (above _ (λ k h. (
               k,
               omega arith,
-              quotient-by k h ∙ quotient-more m y (λ z. read r k item (not b) z) (product-ends .reads .parts)
+              quotient-by k h ∙ quotient-is r (λ z. read r k item (not b) z) (product-ends .reads .parts) s (i - 1) ∙ (rw (is-slashed m y))
                   ∙ ap (λ (n : ℕ). appended (product-ends .reads .parts) (read r k item (not b) (drop n s))) there,
             ))) (c .reads);
           })

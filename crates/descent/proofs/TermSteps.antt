@@ -65,8 +65,8 @@ marks-as : (p : List ℕ) (n m : ℕ) (ok : Bool) → m ≡ mark ok (getD (set p
 marks-as p n m ok w = w ∙ ap (mark ok) (getD-set-other p 64 65 (n + 1) 0 (λ q. omega arith))
 
 module _ {p : List ℕ} {e : List ℤ} {n m a z : ℕ} {x : ℤ} {ok : Bool} (l : Roomy (lent p e)) (c : getD p 64 0 ≡ n) (w : m ≡ mark ok (getD (set p 64 (n + 1)) 65 0)) where
-  pub kept₁ : {y : ℤ} → y ≡ x → n < 32 → Kept (lent p e) a z x ok (lent (stored p n m a z) (set e n y))
-  kept₁ {y} q h = record {
+  pub kept-in-room : {y : ℤ} → y ≡ x → n < 32 → Kept (lent p e) a z x ok (lent (stored p n m a z) (set e n y))
+  kept-in-room {y} q h = record {
     room = record { places = simp length-set (l .places); exponents = simp length-set (l .exponents) };
     counted = stored-other p n m (l .places) a z 64 (λ q. omega arith) (λ q. omega arith) ∙ noted-count p n m (l .places) ∙ ap (λ (k : ℕ). k + 1) (sym c);
     marks = stored-other p n m (l .places) a z 65 (λ q. omega arith) (λ q. omega arith) ∙ noted-mark p n m (l .places) ∙ marks-as p n m ok w;
@@ -91,8 +91,8 @@ module _ {p : List ℕ} {e : List ℤ} {n m a z : ℕ} {x : ℤ} {ok : Bool} (l 
         getD-set-other e n i y (pos 0) (λ q. omega arith),
       )
 
-  pub kept₂ : 32 ≤ n → Kept (lent p e) a z x ok (lent (noted p n m) e)
-  kept₂ h = record {
+  pub kept-without-room : 32 ≤ n → Kept (lent p e) a z x ok (lent (noted p n m) e)
+  kept-without-room h = record {
     room = record { places = simp length-set (l .places); exponents = l .exponents };
     counted = noted-count p n m (l .places) ∙ ap (λ (k : ℕ). k + 1) (sym c);
     marks = noted-mark p n m (l .places) ∙ marks-as p n m ok w;

@@ -1,11 +1,12 @@
 // Recursive descent. Each function takes the rules, the label, a place, whether slashes turn the units over, and the lent terms. The answer is one
-// more than the place behind what was read, or 0. A product may hold groups and a group holds a product; the bytes left in the label fall.
+// more than the place after what was read, or 0. A product may have groups and a group has a product; the bytes left in the label fall.
 use crate::joint::join_at;
 use crate::joint::last_slash;
 use crate::joint::leading_slash;
 use crate::joint::turned_by;
 use crate::terms::keep;
 use label::Rules;
+use scan::class::byte_at;
 use scan::spelling::spelling_at;
 use tokens::power::closes;
 use tokens::power::power_after;
@@ -44,7 +45,13 @@ pub fn unit(
     next + 1
 }
 
-// What a group holds, and the bracket that closes it.
+// Whether the units of a product are turned over, and whether the product may end with a slash and one unit or group.
+pub struct Sense {
+    pub turned: bool,
+    pub over: bool,
+}
+
+// What is in a group, and the bracket that closes it.
 pub fn read_group(
     r: Rules,
     s: &[u8],
@@ -57,7 +64,11 @@ pub fn read_group(
     ensures { λ o. ⌜ Grouped r turned (now (s .entry)) at
         (lent (now (places .entry)) (now (exponents .entry))) (lent (now (places .exit)) (now (exponents .exit))) o ⌝ }
 {
-    let p = read_product(r, s, at, turned, r.within, places, exponents);
+    let sense = Sense {
+        turned,
+        over: r.within,
+    };
+    let p = read_product(r, s, at, sense, places, exponents);
     if p == 0 {
         return 0;
     }
@@ -80,32 +91,28 @@ pub fn read_item(
     ensures { λ o. ⌜ Stepped item r turned (now (s .entry)) at
         (lent (now (places .entry)) (now (exponents .entry))) (lent (now (places .exit)) (now (exponents .exit))) o ⌝ }
 {
-    if s.len() <= at {
-        return 0;
-    }
-    if s[at] == b'(' {
+    if byte_at(s, at) == b'(' {
         return read_group(r, s, at + 1, turned, places, exponents);
     }
     unit(r, s, at, turned, places, exponents)
 }
 
-// A product; where `over` says so, perhaps over one unit or group.
+// A product, perhaps over one unit or group.
 pub fn read_product(
     r: Rules,
     s: &[u8],
     at: usize,
-    turned: bool,
-    over: bool,
+    sense: Sense,
     places: &mut [usize; 66],
     exponents: &mut [i32; 32],
 ) -> usize
     requires { ⌜ Ready (now s) at (lent (now places) (now exponents)) ⌝ }
-    ensures { λ o. ⌜ Stepped (kind over) r turned (now (s .entry)) at
+    ensures { λ o. ⌜ Stepped (kind (sense .over)) r (sense .turned) (now (s .entry)) at
         (lent (now (places .entry)) (now (exponents .entry))) (lent (now (places .exit)) (now (exponents .exit))) o ⌝ }
 {
     let l = leading_slash(r, s, at);
     let mut from = l.next;
-    let mut down = turned_by(l.found, turned);
+    let mut down = turned_by(l.found, sense.turned);
     loop {
         let i = read_item(r, s, from, down, places, exponents);
         if i == 0 {
@@ -113,12 +120,12 @@ pub fn read_product(
         }
         let j = join_at(r, s, i - 1);
         if !j.found {
-            if last_slash(r, s, i - 1, over) {
-                return read_item(r, s, i, !turned, places, exponents);
+            if last_slash(r, s, i - 1, sense.over) {
+                return read_item(r, s, i, !sense.turned, places, exponents);
             }
             return i;
         }
         from = j.next;
-        down = turned_by(j.over, turned);
+        down = turned_by(j.over, sense.turned);
     }
 }

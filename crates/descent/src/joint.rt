@@ -1,6 +1,7 @@
-// What stands between units.
+// What is between units.
 use label::Rules;
 use scan::class::both;
+use scan::class::byte_at;
 use scan::run::spaces;
 ghost use Prim.Native.Nat.{_≤_};
 ghost use mathlib.Core.Path.{_≡_};
@@ -24,7 +25,7 @@ pub fn turned_by(slash: bool, turned: bool) -> bool
     turned
 }
 
-// The place behind the spaces at `at`, where the rules let spaces stand around a separator.
+// The place after the spaces at `at`, where the rules allow spaces around a separator.
 pub fn padded(r: Rules, s: &[u8], at: usize) -> usize
     requires { ⌜ at ≤ length (now s) ⌝ }
     ensures { λ o. ⌜ Pads r (now (s .entry)) at o ⌝ }
@@ -50,14 +51,7 @@ pub fn spaced(r: Rules, s: &[u8], at: usize) -> Joint
     requires { ⌜ at ≤ length (now s) ⌝ }
     ensures { λ o. ⌜ Spaces r (now (s .entry)) at o ⌝ }
 {
-    if s.len() <= at {
-        return Joint {
-            found: false,
-            over: false,
-            next: at,
-        };
-    }
-    if both(s[at] == b' ', r.space) {
+    if both(byte_at(s, at) == b' ', r.space) {
         return Joint {
             found: true,
             over: false,
@@ -113,13 +107,7 @@ pub fn leading_slash(r: Rules, s: &[u8], at: usize) -> Leading
     ensures { λ o. ⌜ Leads r (now (s .entry)) at o ⌝ }
 {
     let p = padded(r, s, at);
-    if s.len() <= p {
-        return Leading {
-            found: false,
-            next: at,
-        };
-    }
-    if both(s[p] == b'/', r.each) {
+    if both(byte_at(s, p) == b'/', r.each) {
         return Leading {
             found: true,
             next: padded(r, s, p + 1),
@@ -131,7 +119,7 @@ pub fn leading_slash(r: Rules, s: &[u8], at: usize) -> Leading
     }
 }
 
-// Whether the one slash that may come after a product stands at `at`, where `over` lets it.
+// Whether the one slash that may come after a product is at `at`, where `over` allows it.
 pub fn last_slash(r: Rules, s: &[u8], at: usize, over: bool) -> bool
     requires { ⌜ at ≤ length (now s) ⌝ }
     ensures { λ o. ⌜ Slashes r over (now (s .entry)) at o ⌝ }
@@ -139,8 +127,5 @@ pub fn last_slash(r: Rules, s: &[u8], at: usize, over: bool) -> bool
     if !over {
         return false;
     }
-    if s.len() <= at {
-        return false;
-    }
-    both(s[at] == b'/', !r.each)
+    both(byte_at(s, at) == b'/', !r.each)
 }

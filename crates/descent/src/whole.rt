@@ -1,9 +1,11 @@
 // The whole label by a notation's rules, limits not counted.
+use crate::descent::Sense;
 use crate::descent::read_item;
 use crate::descent::read_product;
 use label::Rules;
 use label::WrittenFactor;
 use scan::class::both;
+use scan::class::byte_at;
 use scan::class::is_digit;
 use scan::run::spaces;
 use tokens::factor::factor_at;
@@ -29,21 +31,18 @@ pub fn no_label() -> LabelRead
     }
 }
 
-// The place behind one space, if one stands at `at`.
+// The place after one space, if there is one at `at`.
 pub fn one_space(s: &[u8], at: usize) -> usize
     requires { ⌜ at ≤ length (now s) ⌝ }
     ensures { λ o. ⌜ OneSpace (now (s .entry)) at o ⌝ }
 {
-    if s.len() <= at {
-        return at;
-    }
-    if s[at] == b' ' {
+    if byte_at(s, at) == b' ' {
         return at + 1;
     }
     at
 }
 
-// The place of the first unit behind a factor that ends at `at`.
+// The place of the first unit after a factor that ends at `at`.
 pub fn gap(r: Rules, s: &[u8], at: usize) -> usize
     requires { ⌜ at ≤ length (now s) ⌝ }
     ensures { λ o. ⌜ Gaps r (now (s .entry)) at o ⌝ }
@@ -85,7 +84,11 @@ pub fn factored(
         return no_label();
     }
     let at = gap(r, s, f.next);
-    let p = read_product(r, s, at, false, true, places, exponents);
+    let sense = Sense {
+        turned: false,
+        over: true,
+    };
+    let p = read_product(r, s, at, sense, places, exponents);
     let written = f.factor;
     ended(s, written, p)
 }
@@ -117,6 +120,10 @@ pub fn read_label(
         let i = read_item(r, s, 1, true, places, exponents);
         return ended(s, WrittenFactor::Absent, i);
     }
-    let q = read_product(r, s, 0, false, true, places, exponents);
+    let sense = Sense {
+        turned: false,
+        over: true,
+    };
+    let q = read_product(r, s, 0, sense, places, exponents);
     ended(s, WrittenFactor::Absent, q)
 }

@@ -7,7 +7,7 @@ use lib.ListN.{length}
 use borrow.Fn.Kinds.{In}
 use borrow.Fn.PlainCycle.{Measures, is, falls, and}
 use Rattle.descent.specs.Terms.{lent}
-use Rattle.descent.proofs.StepLaws.{group₁, group₂, group₃, item₁, item₂, item₃, Ongoing, turn-first, turn-none, turn-next, turn-less, turn-last, turn-over, ready-on, ready-over}
+use Rattle.descent.proofs.StepLaws.{group-of-nothing, group-closed, group-unclosed, item-group, item-unit, Ongoing, turn-first, turn-none, turn-next, turn-less, turn-last, turn-over, ready-inside, ready-over}
 use Rattle.descent.proofs.descent.read_group.Reads as read-group
 use Rattle.descent.proofs.descent.read_group.Kinds as read-group-kinds
 use Rattle.descent.proofs.descent.+read_group+read_item+read_product.Lts-read_group as group
@@ -22,6 +22,7 @@ use Rattle.descent.proofs.joint.join_at.Reads as join-at-reads
 use Rattle.descent.proofs.joint.last_slash.Reads as last-slash-reads
 use Rattle.descent.proofs.joint.leading_slash.Reads as leading-slash-reads
 use Rattle.descent.proofs.joint.turned_by.Reads as turned-by-reads
+use Rattle.scan.proofs.class.byte_at.Reads as byte-at-reads
 use Rattle.tokens.proofs.power.closes.Reads as closes-reads
 use Rattle.descent.proofs.descent.+read_group+read_item+read_product.{statement}
 use Rattle.descent.proofs.descent.+read_group+read_item+read_product.Tie.{close}
@@ -63,7 +64,7 @@ abbrev group-calls : ℕ → group.Claims
 group-calls t = (product-below t, read-product.Post, closes-reads.Asked, closes-reads.Learnt)
 
 abbrev item-calls : ℕ → item.Claims
-item-calls t = (group-below t, read-group.Post, unit-reads.Asked, unit-reads.Learnt)
+item-calls t = (byte-at-reads.Asked, byte-at-reads.Learnt, group-below t, read-group.Post, unit-reads.Asked, unit-reads.Learnt)
 
 abbrev product-calls : ℕ → product.Claims
 product-calls t = (
@@ -80,19 +81,19 @@ product-calls t = (
 )
 
 abbrev Inv : product.InvT-loop
-Inv r s at turned over places₀ exponents₀ from₀ down₀ places exponents from down =
-    Ongoing r turned s at (lent places₀ exponents₀) from down (lent places exponents)
+Inv r s at sense places₀ exponents₀ from₀ down₀ places exponents from down =
+    Ongoing r (sense .turned) s at (lent places₀ exponents₀) from down (lent places exponents)
 
 abbrev μ : product.MeasureT-loop
-μ r s at turned over places₀ exponents₀ from₀ down₀ places exponents from down = length s - from
+μ r s at sense places₀ exponents₀ from₀ down₀ places exponents from down = length s - from
 
 -- the answers are in the order of the code
-group-closed : {M : Type 1} (t : ℕ) → group.Closed (group-calls t) (group-at t) read-group.Post M
-group-closed t =
+group-proved : {M : Type 1} (t : ℕ) → group.Closed (group-calls t) (group-at t) read-group.Post M
+group-proved t =
     group.spec (group-calls t) (group-at t) read-group.Post
     -- the product is called, and finds nothing
     (λ c κs. (omega arith, search))
-    (λ c. group₁ (c .before .read-product .ensures) (c .if1 .taken))
+    (λ c. group-of-nothing (c .before .read-product .ensures) (c .if1 .taken))
     -- the bracket that closes, found or not
     (λ c. omega arith)
     (λ c κs. c .before .read-product .ensures .reads .ready (omega arith) .within)
@@ -101,27 +102,27 @@ group-closed t =
     omega (arith, p .read-product .ensures .reads .ready (omega arith) .within, p .before .before .before .before .good .1 .0))
     (λ c.
     let e = c .before .before in
-    group₂ (e .before .read-product .ensures) (e .if1 .left) (c .before .closes .ensures) (c .if2 .taken))
+    group-closed (e .before .read-product .ensures) (e .if1 .left) (c .before .closes .ensures) (c .if2 .taken))
     (λ c.
     let e = c .before .before in
-    group₃ (e .before .read-product .ensures) (e .if1 .left) (c .before .closes .ensures) (c .if2 .left))
+    group-unclosed (e .before .read-product .ensures) (e .if1 .left) (c .before .closes .ensures) (c .if2 .left))
 
-item-closed : {M : Type 1} (t : ℕ) → item.Closed (item-calls t) (item-at t) read-item.Post M
-item-closed t =
+item-proved : {M : Type 1} (t : ℕ) → item.Closed (item-calls t) (item-at t) read-item.Post M
+item-proved t =
     item.spec (item-calls t) (item-at t) read-item.Post
-    -- the text ends
-    (λ c. item₁ (c .if1 .taken))
-    (λ c. omega arith)
+    (λ c κs. search needs)
     -- a group
-    (λ c. omega arith)
-    (λ c κs. (omega arith, search (ready-on, arith)))
-    (λ c. search (item₂, arith))
+    (λ c. search needs)
+    (λ c κs.
+    let e = c .before .before in
+    let g = ready-inside (e .before .byte-at .ensures) (e .if1 .taken) (e .before .before .before .pre .1) in (omega (arith, g .within), g))
+    (λ c. search (item-group, arith))
     -- a unit
     (λ c κs. search)
-    (λ c. search (item₃, arith))
+    (λ c. search (item-unit, arith))
 
-product-closed : {M : Type 1} (t : ℕ) → product.Closed (product-calls t) (product-at t) read-product.Post M
-product-closed t =
+product-proved : {M : Type 1} (t : ℕ) → product.Closed (product-calls t) (product-at t) read-product.Post M
+product-proved t =
     product.spec (product-calls t) (product-at t) read-product.Post Inv μ
     -- up to the loop
     (λ c κs. search needs)
@@ -132,7 +133,7 @@ product-closed t =
     (λ c.
     let i = c .before in
     let g = i .before .before .before in
-    turn-none (g .loop .inv) (i .read-item .ensures) (g .before .before .before .before .args .over) (c .if1 .taken))
+    turn-none (g .loop .inv) (i .read-item .ensures) (g .before .before .before .before .args .sense .over) (c .if1 .taken))
     -- what joins, and the last slash
     (λ c. omega arith)
     (λ c κs. c .before .read-item .ensures .reads .ready (omega arith) .within)
@@ -140,22 +141,22 @@ product-closed t =
     (λ c κs. c .before .before .before .before .read-item .ensures .reads .ready (omega arith) .within)
     -- the item below the last slash
     (λ c κs.
-    let l = c .before .before .before in
+    let l = c .before .before .before .before in
     let j = l .before .before .before in
     let i = j .before .before in
     let g = i .before .before .before in (
       omega (arith, g .before .before .before .before .pre .0, g .loop .inv .forward, i .read-item .ensures .reads .ahead (omega arith)),
       ready-over
           (g .loop .inv) (i .read-item .ensures) (j .before .if1 .left) (j .join-at .ensures)
-          (l .before .if2 .taken) (l .last-slash .ensures) (c .before .before .if3 .taken),
+          (l .before .if2 .taken) (l .last-slash .ensures) (c .before .before .before .if3 .taken),
     ))
     (λ c.
-    let l = c .before .before .before .before in
+    let l = c .before .before .before .before .before in
     let j = l .before .before .before in
     let i = j .before .before in
     turn-over
     (i .before .before .before .loop .inv) (i .read-item .ensures) (j .before .if1 .left) (j .join-at .ensures)
-    (l .before .if2 .taken) (l .last-slash .ensures) (c .before .before .before .if3 .taken) (c .read-item2 .ensures))
+    (l .before .if2 .taken) (l .last-slash .ensures) (c .before .before .before .before .if3 .taken) (c .read-item2 .ensures))
     -- no last slash
     (λ c.
     let j = c .before .before .before .before in
@@ -177,4 +178,4 @@ product-closed t =
     (c .before .if2 .left) (c .turned-by2 .ensures))
 
 pub +read-group+read-item+read-product-spec : {M : Type 1} → statement M
-+read-group+read-item+read-product-spec = close μ-group μ-item μ-product group-closed item-closed product-closed
++read-group+read-item+read-product-spec = close μ-group μ-item μ-product group-proved item-proved product-proved

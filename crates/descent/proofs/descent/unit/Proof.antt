@@ -1,5 +1,5 @@
 use native.Mathlib.Omega.{arith}
-use Rattle.descent.proofs.StepLaws.{unit₁, unit₂, unit₃}
+use Rattle.descent.proofs.StepLaws.{unit-unspelled, unit-unpowered, unit-read}
 use borrow.Author.Needs.{needs}
 use Rattle.descent.proofs.descent.unit.Statement.{statement}
 use Rattle.descent.proofs.descent.unit.Tie as tie
@@ -9,9 +9,9 @@ unit-spec =
     tie.close
     (tie.spec
     (λ c κs. search needs)
-    (λ c. search (unit₁, arith))
+    (λ c. search (unit-unspelled, arith))
     (λ c κs. search needs)
-    (λ c. search (unit₂, arith))
+    (λ c. search (unit-unpowered, arith))
     (λ c κs. search needs)
     (λ c κs. search needs)
     (λ c.
@@ -21,4 +21,4 @@ unit-spec =
     let e = c .before .before .before .before in
     let p = e .before .before .before in
     let w = p .before .before .before in
-    unit₃ (w .spelling-at .ensures) (p .before .if1 .left) (p .power-after .ensures) {m = e .exponent .result} (w .before .before .pre) (e .before .if2 .left) (e .exponent .ensures .0) (c .keep .ensures)))
+    unit-read (w .spelling-at .ensures) (p .before .if1 .left) (p .power-after .ensures) {m = e .exponent .result} (w .before .before .pre) (e .before .if2 .left) (e .exponent .ensures .0) (c .keep .ensures)))

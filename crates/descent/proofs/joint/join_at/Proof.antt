@@ -1,5 +1,5 @@
 use native.Mathlib.Omega.{arith}
-use Rattle.descent.proofs.JointSteps.{joint₁, joint₂, joint₃, joint₄}
+use Rattle.descent.proofs.JointSteps.{end-joins-nothing, separator-joins, slash-joins, spaces-alone-join}
 use borrow.Author.Needs.{needs}
 use Rattle.descent.proofs.joint.join_at.Statement.{statement}
 use Rattle.descent.proofs.joint.join_at.Tie as tie
@@ -9,15 +9,15 @@ join-at-spec =
     tie.close
     (tie.spec
     (λ c κs. search needs)
-    (λ c. search (joint₁, arith))
+    (λ c. search (end-joins-nothing, arith))
     (λ c. search needs)
     (λ c κs. search needs)
     (λ c. search needs)
     (λ c κs. search needs)
-    (λ c. search (joint₂, arith))
+    (λ c. search (separator-joins, arith))
     (λ c κs. search needs)
     (λ c. search needs)
     (λ c κs. search needs)
-    (λ c. search (joint₃, arith))
+    (λ c. search (slash-joins, arith))
     (λ c κs. search needs)
-    (λ c. search (joint₄, arith)))
+    (λ c. search (spaces-alone-join, arith)))

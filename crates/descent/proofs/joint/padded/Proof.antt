@@ -1,5 +1,5 @@
 use native.Mathlib.Omega.{arith}
-use Rattle.descent.proofs.JointSteps.{padded₁, padded₂}
+use Rattle.descent.proofs.JointSteps.{pads-spaces, pads-nothing}
 use borrow.Author.Needs.{needs}
 use Rattle.descent.proofs.joint.padded.Statement.{statement}
 use Rattle.descent.proofs.joint.padded.Tie as tie
@@ -9,5 +9,5 @@ padded-spec =
     tie.close
     (tie.spec
     (λ c κs. search needs)
-    (λ c. search (padded₁, arith))
-    (λ c. search (padded₂, arith)))
+    (λ c. search (pads-spaces, arith))
+    (λ c. search (pads-nothing, arith)))

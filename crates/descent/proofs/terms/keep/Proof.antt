@@ -2,7 +2,7 @@
 use mathlib.Core.Path.{refl}
 use borrow.Author.Needs.{needs}
 use mir.Facts.{toZ-ofZ}
-use Rattle.descent.proofs.TermSteps.{kept₁, kept₂}
+use Rattle.descent.proofs.TermSteps.{kept-in-room, kept-without-room}
 use Rattle.descent.proofs.terms.keep.Statement.{statement}
 use Rattle.descent.proofs.terms.keep.Tie as tie
 
@@ -27,6 +27,6 @@ keep-spec =
     (λ c. search needs)
     (λ c.
     let start = c .before .before .before .before .before in
-    kept₁ (start .pre .0) refl (c .before .before .marked .ensures) (search (toZ-ofZ, needs)) (c .before .if1 .taken))
+    kept-in-room (start .pre .0) refl (c .before .before .marked .ensures) (search (toZ-ofZ, needs)) (c .before .if1 .taken))
     -- no room for it
-    (λ c. kept₂ (c .before .before .before .before .pre .0) refl (c .before .marked .ensures) (c .if1 .left)))
+    (λ c. kept-without-room (c .before .before .before .before .pre .0) refl (c .before .marked .ensures) (c .if1 .left)))

@@ -1,5 +1,5 @@
 use native.Mathlib.Omega.{arith}
-use Rattle.descent.proofs.LabelSteps.{ended₁, ended₂}
+use Rattle.descent.proofs.LabelSteps.{text-left, text-ends}
 use borrow.Author.Needs.{needs}
 use Rattle.descent.proofs.whole.ended.Statement.{statement}
 use Rattle.descent.proofs.whole.ended.Tie as tie
@@ -9,5 +9,5 @@ ended-spec =
     tie.close
     (tie.spec
     (λ c κs. search needs)
-    (λ c. search (ended₁, arith))
-    (λ c. search (ended₂, arith)))
+    (λ c. search (text-left, arith))
+    (λ c. search (text-ends, arith)))

@@ -1,6 +1,6 @@
 use borrow.Author.Needs.{needs}
 use native.Mathlib.Omega.{arith}
-use Rattle.descent.proofs.LabelSteps.{factored₁, factored₂, ready-first}
+use Rattle.descent.proofs.LabelSteps.{no-factor-read, factor-read, ready-empty}
 use Rattle.descent.proofs.whole.factored.Statement.{statement}
 use Rattle.descent.proofs.whole.factored.Tie as tie
 
@@ -10,8 +10,8 @@ factored-spec =
     (tie.spec
     (λ c κs. search needs)
     (λ c κs. search needs)
-    (λ c. search (factored₁, arith))
+    (λ c. search (no-factor-read, arith))
     (λ c κs. search needs)
-    (λ c κs. search (ready-first, arith))
+    (λ c κs. search (ready-empty, arith))
     (λ c κs. search needs)
-    (λ c. search (factored₂, arith)))
+    (λ c. search (factor-read, arith)))

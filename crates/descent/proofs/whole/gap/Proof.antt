@@ -1,5 +1,5 @@
 use native.Mathlib.Omega.{arith}
-use Rattle.descent.proofs.LabelSteps.{gap₁, gap₂, gap₃}
+use Rattle.descent.proofs.LabelSteps.{gap-of-spaces, gap-of-one-space, gap-of-nothing}
 use borrow.Author.Needs.{needs}
 use Rattle.descent.proofs.whole.gap.Statement.{statement}
 use Rattle.descent.proofs.whole.gap.Tie as tie
@@ -9,7 +9,7 @@ gap-spec =
     tie.close
     (tie.spec
     (λ c κs. search needs)
-    (λ c. search (gap₁, arith))
+    (λ c. search (gap-of-spaces, arith))
     (λ c κs. search needs)
-    (λ c. search (gap₂, arith))
-    (λ c. search (gap₃, arith)))
+    (λ c. search (gap-of-one-space, arith))
+    (λ c. search (gap-of-nothing, arith)))

@@ -1,5 +1,5 @@
 use native.Mathlib.Omega.{arith}
-use Rattle.descent.proofs.LabelSteps.{one-space₁, one-space₂, one-space₃}
+use Rattle.descent.proofs.LabelSteps.{space-passed, no-space-passed}
 use borrow.Author.Needs.{needs}
 use Rattle.descent.proofs.whole.one_space.Statement.{statement}
 use Rattle.descent.proofs.whole.one_space.Tie as tie
@@ -8,8 +8,7 @@ pub one-space-spec : {M : Type 1} → statement M
 one-space-spec =
     tie.close
     (tie.spec
-    (λ c. search (one-space₁, arith))
+    (λ c κs. search needs)
     (λ c. search needs)
-    (λ c. search needs)
-    (λ c. search (one-space₂, arith))
-    (λ c. search (one-space₃, arith)))
+    (λ c. search (space-passed, arith))
+    (λ c. search (no-space-passed, arith)))

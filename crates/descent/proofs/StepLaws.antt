@@ -14,7 +14,7 @@ use Rattle.label.specs.Limits.{exponent-of}
 use Rattle.label.specs.Bytes.{open-bracket, close-bracket, slash}
 use Rattle.label.specs.Parse.{Found, none, found, then, mapped, closed, exponent, spelling, unit, appended, chained, item-at, item-by, more-at, product-at, quotient-on, inside, read}
 use Rattle.label.specs.Ranges.{between, written-in}
-use Rattle.label.proofs.Basics.{false-true}
+use Rattle.label.proofs.Basics.{and-left, and-right}
 use Rattle.scan.specs.Spellings.{Spelled}
 use Rattle.scan.specs.declared.spelling.Spelling.{Spelling}
 use Rattle.tokens.specs.declared.power.PowerAt.{PowerAt}
@@ -68,7 +68,7 @@ module _ {f : ℕ → List ℕ → Found (List Part)} {need least : ℕ} {s : Li
       keeps = a .keeps;
     }
 
-    -- what g reads, then what h reads behind it
+    -- what g reads, then what h reads after it
     then-read : {h : ℕ → List ℕ → Found (List Part)} {need'' least'' at' : ℕ} {v : Lent} {o : ℕ} → at + least ≤ at' + least''
         → ((k : ℕ) → need < k → (j : ℕ) × (need'' < j) × (f k (drop at s) ≡ appended (a .parts) (h j (drop at' s)))) → Reads h need'' least'' s at' u v o
         → Reads f need least s at t v o
@@ -140,7 +140,7 @@ one-least true = refl
 one-least false = refl
 
 module _ {r : Rules} {b : Bool} {s : List ℕ} {at : ℕ} {t u : Lent} {p : ℕ} (a : Stepped (kind (r .within)) r b s at t u p) where
-  -- what the group holds is x
+  -- x is what is read in the group
   inside-read : {x : Found (List Part)} (k : ℕ) → read r k (kind (r .within)) b (drop at s) ≡ x → closed (λ ps. ps) (read r k (inside r) b (drop at s)) ≡ closed (λ ps. ps) x
   inside-read k e = rw (inside-is r, e)
 
@@ -242,21 +242,17 @@ quotient-is r f ps s at = rw (slashed-is r s at) (by-byte (quotient-on r f ps) (
 
 module _ {r : Rules} {over x : Bool} {s : List ℕ} {at : ℕ} (w : Slashes r over s at x) (e : x ≡ true) where
   over-slash : over ≡ true
-  over-slash = go over (sym (w .is) ∙ e)
-    where
-      go : (y : Bool) → (y && slashed r (drop at s)) ≡ true → y ≡ true
-      go true q = refl
-      go false q = absurd (false-true q)
+  over-slash = and-left over (slashed r (drop at s)) (sym (w .is) ∙ e)
 
   is-slashed : slashed r (drop at s) ≡ true
-  is-slashed = rw over-slash at (sym (w .is) ∙ e)
+  is-slashed = and-right over (slashed r (drop at s)) (sym (w .is) ∙ e)
 
   slash-room : at < length s
   slash-room = byte-tested s at slash (not (r .each)) (omega arith) (sym (slashed-is r s at) ∙ is-slashed)
 
 -- A PRODUCT, TURN BY TURN
 
--- of a product under the sign b that starts at `at` with the terms t, what stands before `from` has been read: whatever is read from there on, first an
+-- of a product under the sign b that starts at `at` with the terms t, what is before `from` has been read: whatever is read from there on, first an
 -- item under the sign d, ends the product
 pub record Ongoing (r : Rules) (b : Bool) (s : List ℕ) (at : ℕ) (t : Lent) (from : ℕ) (d : Bool) (u : Lent) : Type 0 where
   pub forward : at ≤ from
@@ -316,7 +312,7 @@ module _ {r : Rules} {b d : Bool} {s : List ℕ} {at from i : ℕ} {t u v : Lent
             ∙ more-none r b s (i - 1) j k (a .reads .parts) w (not-true (j .found) f))));
       })
 
-      -- the product, then what may stand behind it
+      -- the product, then what may come after it
       quotient-by : (k : ℕ) → fuel-at s at + 2 ≤ k
           → read r (suc k) quotient b (drop at s) ≡ quotient-on r (λ z. read r k item (not b) z) (product-ends .reads .parts) (drop (i - 1) s)
       unfolding read then

@@ -1,4 +1,4 @@
--- One term more: the ways through the code, and what the terms then stand for.
+-- One term more: the ways through the code, and the units that the terms then represent.
 use Prim.Native.Nat.{ℕ, zero, suc, _≤_, _<_, _+_}
 use native.Mathlib.Omega.{arith}
 use native.Mathlib.Numerals.{add-one}
@@ -99,7 +99,7 @@ module _ {p : List ℕ} {e : List ℤ} {n m a z : ℕ} {x : ℤ} {ok : Bool} (l 
     adds = λ g. absurd (omega arith);
   }
 
--- WHAT THE TERMS STAND FOR
+-- THE UNITS THAT THE TERMS REPRESENT
 
 pub holds-none : {t : Lent} → Empty t → (s : List ℕ) → Holds s t []
 unfolding valued-units terms

@@ -1,4 +1,4 @@
--- What stands between units, in terms of the text from a place on.
+-- What is between units, in terms of the text from a place on.
 use Prim.Native.Nat.{ℕ, _≤_, _<_}
 use mathlib.Core.Path.{_≡_}
 use mathlib.Core.Bool.{Bool, true, false, _&&_, _||_, not}
@@ -20,7 +20,7 @@ abbrev pub turned-by : Bool → Bool → Bool
 turned-by true b = not b
 turned-by false b = b
 
--- o is the place behind the spaces at `at`
+-- o is the place after the spaces at `at`
 pub record Pads (r : Rules) (s : List ℕ) (at o : ℕ) : Type 0 where
   pub rest : drop o s ≡ padded r (drop at s)
   pub from : at ≤ o

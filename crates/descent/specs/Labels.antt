@@ -38,7 +38,7 @@ pub record Ended (s : List ℕ) (f : WrittenFactor) (p : ℕ) (o : LabelRead) : 
   pub good : o .ok ≡ true → 0 < p
   pub inside : FactorInside s f → FactorInside s (o .factor)
 
--- x is the label that o says, and the terms t stand for its units
+-- x is the label that o says, and the terms t represent its units
 pub record Tells (x : Parsed) (s : List ℕ) (t : Lent) (o : LabelRead) : Type 0 where
   pub parts : List Part
   pub is : x ≡ parsed-by (o .ok) (factor-in s (o .factor)) parts

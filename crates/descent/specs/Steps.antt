@@ -1,4 +1,4 @@
--- What the functions of the descent find, in terms of the text from a place on, whatever the fuel from a bound on.
+-- What the functions of the descent read, in terms of the text from a place on, whatever the fuel from a bound on.
 use Prim.Native.Nat.{ℕ, _≤_, _<_, _-_, _+_, _*_}
 use mathlib.Core.Path.{_≡_}
 use mathlib.Core.Bool.{Bool, true, false}
@@ -41,7 +41,7 @@ least quotient = 1
 abbrev pub fuel-at : List ℕ → ℕ → ℕ
 fuel-at s at = 3 * (length s - at)
 
--- a product, or one that may stand over one item
+-- a product, or one that may be over one item
 abbrev pub kind : Bool → Kind
 kind true = quotient
 kind false = product
@@ -54,7 +54,7 @@ pub record Stepped (x : Kind) (r : Rules) (b : Bool) (s : List ℕ) (at : ℕ) (
 pub record Chained (r : Rules) (d b : Bool) (s : List ℕ) (at : ℕ) (t u : Lent) (o : ℕ) : Type 0 where
   pub reads : Reads (λ k v. chained (read r k item d v) (λ w. read r k more b w)) (fuel-at s at) 1 s at t u o
 
--- what a group holds, and the bracket that closes it
+-- what is in a group, and the bracket that closes it
 pub record Grouped (r : Rules) (b : Bool) (s : List ℕ) (at : ℕ) (t u : Lent) (o : ℕ) : Type 0 where
   pub reads : Reads (λ k v. closed (λ ps. ps) (read r k (inside r) b v)) (fuel-at s at + 2) 1 s at t u o
 

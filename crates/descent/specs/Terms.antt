@@ -1,4 +1,4 @@
--- The terms that the code holds in its two lent arrays, and the units of a label that they stand for.
+-- The terms in the two lent arrays, and the units of a label that they represent.
 use Prim.Native.Nat.{ℕ, zero, suc, _≤_, _<_, _-_, _+_}
 use mathlib.Core.Path.{_≡_}
 use mathlib.Core.Bool.{Bool, true, false}
@@ -67,7 +67,7 @@ pub record Kept (t : Lent) (a z : ℕ) (x : ℤ) (ok : Bool) (u : Lent) : Type 0
   pub marks : broken u ≡ mark ok (broken t)
   pub adds : count t < 32 → terms u (count t + 1) ≡ terms t (count t) ++ (term a z x ∷ [])
 
--- WHAT THEY STAND FOR
+-- THE UNITS THAT THEY REPRESENT
 
 -- a term as a unit of the label s
 abbrev pub placed-in : List ℕ → LentTerm → Placed
@@ -78,7 +78,7 @@ abbrev pub missing : {A : Type 0} → Option A → ℕ
 missing nothing = 1
 missing (some a) = 0
 
--- a term's spelling lies in the label s
+-- a term's spelling is in the label s
 pub record InLabel (s : List ℕ) (x : LentTerm) : Type 0 where
   pub forward : x .start ≤ x .end
   pub within : x .end ≤ length s
@@ -87,7 +87,7 @@ pub data AllIn (s : List ℕ) : List LentTerm → Type 0 where
   none : AllIn s []
   more : {x : LentTerm} {xs : List LentTerm} → InLabel s x → AllIn s xs → AllIn s (x ∷ xs)
 
--- the terms stand for these units: all are counted, it is told whether a power breaks its bound, and up to 32 are kept with their values
+-- the terms represent these units: all are counted, a mark says whether a power breaks its bound, and up to 32 are kept with their values
 pub record Holds (s : List ℕ) (t : Lent) (ps : List Part) : Type 0 where
   pub counted : count t ≡ length ps
   pub marks : broken t ≡ missing (valued-units ps)

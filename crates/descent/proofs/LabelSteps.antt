@@ -16,6 +16,7 @@ use Rattle.label.specs.Lexical.{no-factor, Part, Kind, item, quotient}
 use Rattle.label.specs.Parse.{Found, none, found, factor, Parsed, refused, parsed, ended, one-space, gap, factored, label-by, fuel, read, parse-by}
 use Rattle.label.specs.Ranges.{factor-in, FactorInside}
 use Rattle.label.proofs.Basics.{false-true}
+use Rattle.label.proofs.Complete.{rank-most}
 use Rattle.scan.specs.Runs.{Run, is-space}
 use Rattle.symbols.proofs.Parts.{here, beyond}
 use Rattle.tokens.specs.declared.factor.FactorAt.{FactorAt}
@@ -26,7 +27,6 @@ use Rattle.descent.specs.Terms.{Lent, Empty}
 use Rattle.descent.specs.Steps.{Ready, Stepped}
 use Rattle.descent.specs.Labels.{OneSpace, Gaps, no-label, Ended, Tells, ReadsFactored, ReadsLabel}
 use Rattle.descent.proofs.TermSteps.{holds-none}
-use Rattle.descent.proofs.StepLaws.{rank-most}
 
 -- THE GAP AFTER A FACTOR
 

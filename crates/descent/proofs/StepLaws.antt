@@ -15,6 +15,7 @@ use Rattle.label.specs.Bytes.{open-bracket, close-bracket, slash}
 use Rattle.label.specs.Parse.{Found, none, found, then, mapped, closed, exponent, spelling, unit, appended, chained, item-at, item-by, more-at, product-at, quotient-on, inside, read}
 use Rattle.label.specs.Ranges.{between, written-in}
 use Rattle.label.proofs.Basics.{and-left, and-right}
+use Rattle.label.proofs.Complete.{rank-most}
 use Rattle.scan.specs.Spellings.{Spelled}
 use Rattle.scan.specs.declared.spelling.Spelling.{Spelling}
 use Rattle.tokens.specs.declared.power.PowerAt.{PowerAt}
@@ -26,7 +27,7 @@ use Rattle.descent.specs.declared.joint.Joint.{Joint as Joined}
 use Rattle.descent.specs.declared.joint.Leading.{Leading}
 use Rattle.descent.specs.Terms.{Lent, Kept}
 use Rattle.descent.specs.Joints.{turned-by, joint-by, Joins, leading-by, Leads, slashed, Slashes}
-use Rattle.descent.specs.Steps.{Ready, Reads, rank, least, fuel-at, kind, Stepped, Chained, Grouped, ReadsUnit}
+use Rattle.descent.specs.Steps.{Ready, Reads, least, fuel-at, kind, Stepped, Chained, Grouped, ReadsUnit}
 use Rattle.descent.proofs.TermSteps.{holds-more}
 use Rattle.descent.proofs.JointSteps.{slashed-is}
 
@@ -121,12 +122,6 @@ module _ {r : Rules} {b : Bool} {s : List ℕ} {at : ℕ} {t : Lent} {w : Spelli
         part = record { spelling = between s at (w .end); power = written-in s (p .power); turned = b; left = length (drop at s) }
 
 -- GROUPS
-
-pub rank-most : (x : Kind) → rank x ≤ 2
-rank-most item = omega arith
-rank-most more = omega arith
-rank-most product = omega arith
-rank-most quotient = omega arith
 
 inside-is : (r : Rules) → inside r ≡ kind (r .within)
 inside-is r = go (r .within)

@@ -7,6 +7,7 @@ use lib.ListN.{length, drop}
 use Rattle.label.specs.declared.Rules.{Rules}
 use Rattle.label.specs.Lexical.{Part, Kind, item, more, product, quotient}
 use Rattle.label.specs.Parse.{Found, none, found, closed, unit, chained, inside, read}
+use Rattle.label.proofs.Complete.{rank}
 use Rattle.descent.specs.Terms.{Lent, Roomy, count, Holds}
 
 -- a place of the label, with no more terms than bytes before it
@@ -25,13 +26,7 @@ pub record Reads (f : ℕ → List ℕ → Found (List Part)) (need least : ℕ)
   pub ready : 0 < o → Ready s (o - 1) u
   pub keeps : 0 < o → (ps : List Part) → Holds s t ps → Holds s u (ps ++ parts)
 
--- how far beyond three times the bytes left the fuel has to go, and how many bytes at least are read
-abbrev pub rank : Kind → ℕ
-rank item = 0
-rank more = 0
-rank product = 1
-rank quotient = 2
-
+-- how many bytes at least are read
 abbrev pub least : Kind → ℕ
 least item = 1
 least more = 0

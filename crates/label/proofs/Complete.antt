@@ -128,7 +128,7 @@ rank more = 0
 rank product = 1
 rank quotient = 2
 
-rank-most : (x : Kind) → rank x ≤ 2
+pub rank-most : (x : Kind) → rank x ≤ 2
 rank-most item = omega arith
 rank-most more = omega arith
 rank-most product = omega arith

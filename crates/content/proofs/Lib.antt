@@ -2,6 +2,7 @@ pub mod HeldSigns
 pub mod Integers
 pub mod Listing
 pub mod Naming
+pub mod PartLaws
 pub mod SlotLaws
 pub mod SumLaws
 pub mod TermLaws

@@ -5,6 +5,8 @@ use label::Exponent;
 use symbols::Symbol;
 use symbols::properties::slot_base;
 use symbols::properties::slot_power;
+use symbols::tables::unit_bases;
+use symbols::tables::unit_powers;
 ghost use mathlib.Core.Path.{_≡_};
 ghost use mathlib.Core.List.{List, map};
 ghost use Prim.Native.Nat.{ℕ, _≤_};
@@ -16,7 +18,7 @@ ghost use Rattle.content.specs.Views.{terms-in};
 ghost use Rattle.content.specs.Sums.{Summable, Added, zeros};
 
 // Adds a term to the sums: to the sum of each base, the base's power in the term's unit times the term's exponent.
-fn add_bases(bases: &[u8], powers: &[i8], x: Symbol, e: Exponent, sums: &mut [i64; 32])
+fn add_bases(bases: &[u8], powers: &[i8], x: Symbol, e: Exponent, sums: &mut [i64])
     requires { ⌜ (now bases ≡ unit-bases) × ((now powers ≡ unit-powers) × Summable 32 (now sums)) ⌝ }
     ensures { λ _. ⌜ ((s : List ℕ) →
         Added (λ b. base-in b (symbol-in s x)) e (now (sums .entry)) (now (sums .exit))) ⌝ }
@@ -30,25 +32,19 @@ fn add_bases(bases: &[u8], powers: &[i8], x: Symbol, e: Exponent, sums: &mut [i6
     }
 }
 
-// The exponent of each base, by its number, in the first `count` terms, in sums that start at 0. The columns are lent.
-pub fn dimensions(
-    bases: &[u8],
-    powers: &[i8],
-    count: usize,
-    exponents: &[i32; 32],
-    names: &[u8; 128],
-    sums: &mut [i64; 32],
-)
-    requires { ⌜ (now bases ≡ unit-bases) × ((now powers ≡ unit-powers) × (count ≤ 32)) ⌝ }
-    requires { ⌜ now sums ≡ zeros 32 ⌝ }
+// The exponent of each base, by its number, in the first `count` terms, in sums that start at 0.
+pub fn dimensions(count: usize, exponents: &[i32; 32], names: &[u8; 128], sums: &mut [i64])
+    requires { ⌜ (count ≤ 32) × (now sums ≡ zeros 32) ⌝ }
     ensures { λ _. ⌜ ((s p : List ℕ) → map exponent (now (sums .exit))
         ≡ dimensions-of (terms-in s (lent p (now (exponents .entry))) (now (names .entry)) count)) ⌝ }
 {
+    let bases = unit_bases();
+    let powers = unit_powers();
     let mut i = 0;
     while i < count {
         let x = symbol_at(names, i);
         let e = Exponent(exponents[i]);
-        add_bases(bases, powers, x, e, sums);
+        add_bases(&bases, &powers, x, e, sums);
         i += 1;
     }
 }

@@ -3,4 +3,5 @@ pub mod dimensions;
 pub mod named;
 pub mod scale;
 pub mod sums;
+pub mod totals;
 pub mod verdicts;

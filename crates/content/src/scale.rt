@@ -5,6 +5,8 @@ use label::Exponent;
 use label::Tens;
 use symbols::Symbol;
 use symbols::properties::prime_power;
+use symbols::tables::prefix_powers;
+use symbols::tables::unit_primes;
 ghost use mathlib.Core.Path.{_≡_};
 ghost use mathlib.Core.List.{List};
 ghost use Prim.Native.Nat.{ℕ, _≤_, _^_};
@@ -19,7 +21,7 @@ ghost use Rattle.content.specs.Views.{terms-in, scale-in};
 ghost use Rattle.content.specs.Sums.{Summable, Added, zeros};
 
 // Adds a term to the sums: to the sum of each prime, the prime's power in the term's symbol times the term's exponent.
-fn add_primes(prefixes: &[i8], primes: &[i8], x: Symbol, e: Exponent, sums: &mut [i64; 4])
+fn add_primes(prefixes: &[i8], primes: &[i8], x: Symbol, e: Exponent, sums: &mut [i64])
     requires { ⌜ (now prefixes ≡ prefix-powers) × ((now primes ≡ unit-primes) × Summable 4 (now sums)) ⌝ }
     ensures { λ _. ⌜ ((s : List ℕ) →
         Added (λ b. prime-in (prime-at b) (symbol-in s x)) e (now (sums .entry)) (now (sums .exit))) ⌝ }
@@ -39,21 +41,14 @@ fn in_sixtieths(k: Tens) -> i64
     k.0 as i64 * 60
 }
 
-// The exponent of each prime in the factor, ten to the power `k`, and the first `count` terms, in sums that start at 0. The columns are lent.
-pub fn scale(
-    prefixes: &[i8],
-    primes: &[i8],
-    k: Tens,
-    count: usize,
-    exponents: &[i32; 32],
-    names: &[u8; 128],
-    sums: &mut [i64; 4],
-)
-    requires { ⌜ (now prefixes ≡ prefix-powers) × ((now primes ≡ unit-primes) × (count ≤ 32)) ⌝ }
-    requires { ⌜ now sums ≡ zeros 4 ⌝ }
+// The exponent of each prime in the factor, ten to the power `k`, and the first `count` terms, in sums that start at 0.
+pub fn scale(k: Tens, count: usize, exponents: &[i32; 32], names: &[u8; 128], sums: &mut [i64])
+    requires { ⌜ (count ≤ 32) × (now sums ≡ zeros 4) ⌝ }
     ensures { λ _. ⌜ (length (now (sums .exit)) ≡ 4) × ((s p : List ℕ) → scale-in (now (sums .exit))
         ≡ scale-of k (terms-in s (lent p (now (exponents .entry))) (now (names .entry)) count)) ⌝ }
 {
+    let prefixes = prefix_powers();
+    let primes = unit_primes();
     let tens = in_sixtieths(k);
     sums[0] = tens;
     sums[2] = tens;
@@ -61,7 +56,7 @@ pub fn scale(
     while i < count {
         let x = symbol_at(names, i);
         let e = Exponent(exponents[i]);
-        add_primes(prefixes, primes, x, e, sums);
+        add_primes(&prefixes, &primes, x, e, sums);
         i += 1;
     }
 }

@@ -3,10 +3,10 @@ use crate::named::symbol_at;
 use scan::class::both;
 use symbols::properties::is_lawful;
 use symbols::properties::is_recommended;
-ghost use mathlib.Core.Path.{_≡_};
+use symbols::tables::unit_prefixed;
+use symbols::tables::unit_recommended;
 ghost use mathlib.Core.List.{List};
 ghost use Prim.Native.Nat.{ℕ, _≤_};
-ghost use Rattle.symbols.specs.Columns.{unit-prefixed, unit-recommended};
 ghost use Rattle.descent.specs.Terms.{Lent};
 ghost use Rattle.content.specs.Views.{terms-in};
 ghost use Rattle.content.specs.Verdicts.{VerdictsOn};
@@ -18,17 +18,13 @@ pub struct Verdicts {
     pub recommended: bool,
 }
 
-// The verdicts on the first `count` terms in notation `n`. The columns are lent.
-pub fn verdicts_on(
-    prefixed: &[u8],
-    recommended: &[bool],
-    n: u8,
-    count: usize,
-    names: &[u8; 128],
-) -> Verdicts
-    requires { ⌜ (now prefixed ≡ unit-prefixed) × ((now recommended ≡ unit-recommended) × (count ≤ 32)) ⌝ }
+// The verdicts on the first `count` terms in notation `n`.
+pub fn verdicts_on(n: u8, count: usize, names: &[u8; 128]) -> Verdicts
+    requires { ⌜ count ≤ 32 ⌝ }
     ensures { λ r. ⌜ ((s : List ℕ) (t : Lent) → VerdictsOn n (terms-in s t (now (names .entry)) count) r) ⌝ }
 {
+    let prefixed = unit_prefixed();
+    let recommended = unit_recommended();
     let mut all_known = true;
     let mut all_lawful = true;
     let mut all_recommended = true;
@@ -36,8 +32,8 @@ pub fn verdicts_on(
     while i < count {
         let x = symbol_at(names, i);
         all_known = both(all_known, x.known);
-        all_lawful = both(all_lawful, is_lawful(prefixed, n, x));
-        all_recommended = both(all_recommended, is_recommended(recommended, x));
+        all_lawful = both(all_lawful, is_lawful(&prefixed, n, x));
+        all_recommended = both(all_recommended, is_recommended(&recommended, x));
         i += 1;
     }
     Verdicts {

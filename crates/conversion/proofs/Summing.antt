@@ -3,11 +3,11 @@ use Prim.Native.Nat.{ℕ, zero, suc, _+_, _≤_, _<_, _^_}
 use native.Mathlib.Omega.{arith}
 use native.Mathlib.Numerals.{add-one}
 use mathlib.Core.Path.{_≡_, refl, sym, ap, _∙_}
-use mathlib.Core.Bool.{true, false, _&&_}
+use mathlib.Core.Bool.{Bool, true, false, _&&_}
 use mathlib.Core.List.{List, map, List·Memᴰ, List·Memᴰ·head, List·Memᴰ·tail}
 use lib.IntN.{ℤ, pos, negsuc, natAbs, _-ℤ_}
-use lib.ListN.{length, getD, drop, drop-of-length-le}
-use lib.Seq.{drop-cons}
+use lib.ListN.{length, getD, take, drop, drop-of-length-le}
+use lib.Seq.{drop-cons, getD-take, getD-drop}
 use lib.Signed.{mag}
 use mir.Syntax.{w64}
 use mir.Val.{SFits, toZ, ofZ}
@@ -84,31 +84,35 @@ not-same (pos m) (negsuc n) h = refl
 not-same (negsuc m) (pos n) h = refl
 not-same (negsuc m) (negsuc n) h = ne-eqb m n (λ e. h (ap negsuc e))
 
--- the places from i on decide
+-- the places from i on, of the first 32, decide
 pub record Comparing (xs ys : List ℤ) (i : ℕ) : Type 0 where
   pub within : i ≤ 32
-  pub rest : same-exponents (map exponent (drop i xs)) (map exponent (drop i ys)) ≡ same-exponents (map exponent xs) (map exponent ys)
+  pub rest : same-exponents (map exponent (drop i (take 32 xs))) (map exponent (drop i (take 32 ys))) ≡ same-exponents (map exponent (take 32 xs)) (map exponent (take 32 ys))
 
 pub comparing₀ : (xs ys : List ℤ) → Comparing xs ys 0
 comparing₀ xs ys = record { within = omega arith; rest = refl }
 
-module _ (xs ys : List ℤ) (i : ℕ) (w : Comparing xs ys i) (l : length xs ≡ 32) (m : length ys ≡ 32) where
-  abbrev after : Type 0
-  after = same-exponents (map exponent xs) (map exponent ys) ≡ (same-whole (getD xs i (pos 0)) (getD ys i (pos 0)) && same-exponents (map exponent (drop (i + 1) xs)) (map exponent (drop (i + 1) ys)))
+module _ (xs ys : List ℤ) (i : ℕ) (w : Comparing xs ys i) (l : length (take 32 xs) ≡ 32) (m : length (take 32 ys) ≡ 32) where
+  abbrev Answer-is : Bool → Type 0
+  Answer-is b = b ≡ same-exponents (map exponent (take 32 xs)) (map exponent (take 32 ys))
 
-  next : i < 32 → after
+  next : i < 32 → same-exponents (map exponent (take 32 xs)) (map exponent (take 32 ys))
+      ≡ (same-whole (getD xs i (pos 0)) (getD ys i (pos 0)) && same-exponents (map exponent (drop (i + 1) (take 32 xs))) (map exponent (drop (i + 1) (take 32 ys))))
   unfolding same-exponents
-  next h = sym (w .rest) ∙ rw (add-one i, drop-cons xs i (pos 0) (omega (arith, l)), drop-cons ys i (pos 0) (omega (arith, m)))
+  next h =
+      sym (w .rest)
+      ∙ rw
+      (add-one i, drop-cons (take 32 xs) i (pos 0) (omega (arith, l)), drop-cons (take 32 ys) i (pos 0) (omega (arith, m)), getD-take 32 xs i (pos 0) h, getD-take 32 ys i (pos 0) h)
 
-  pub comparing-done : 32 ≤ i → true ≡ same-exponents (map exponent xs) (map exponent ys)
+  pub comparing-done : 32 ≤ i → Answer-is true
   unfolding same-exponents
   comparing-done h =
-      let a : length xs ≤ i = omega (arith, l) in
-      let b : length ys ≤ i = omega (arith, m) in
-      rw (drop-of-length-le xs a, drop-of-length-le ys b) at (w .rest)
+      let a : length (take 32 xs) ≤ i = omega (arith, l) in
+      let b : length (take 32 ys) ≤ i = omega (arith, m) in
+      rw (drop-of-length-le (take 32 xs) a, drop-of-length-le (take 32 ys) b) at (w .rest)
 
   module _ (h : i < 32) (f : mag (getD xs i (pos 0)) < 2 ^ 63) (g : mag (getD ys i (pos 0)) < 2 ^ 63) where
-    pub comparing-differs : (ofZ w64 (getD xs i (pos 0)) ≡ ofZ w64 (getD ys i (pos 0)) → ⊥) → false ≡ same-exponents (map exponent xs) (map exponent ys)
+    pub comparing-differs : (ofZ w64 (getD xs i (pos 0)) ≡ ofZ w64 (getD ys i (pos 0)) → ⊥) → Answer-is false
     comparing-differs e = sym (next h ∙ rw (not-same (getD xs i (pos 0)) (getD ys i (pos 0)) (λ q. e (ap (ofZ w64) q))))
 
     pub comparing-more : ofZ w64 (getD xs i (pos 0)) ≡ ofZ w64 (getD ys i (pos 0)) → Comparing xs ys (i + 1)
@@ -121,33 +125,38 @@ module _ (xs ys : List ℤ) (i : ℕ) (w : Comparing xs ys i) (l : length xs ≡
 
 -- FIRST OVER SECOND
 
-module _ {xs ys : List ℤ} (w : Limited xs) (v : Limited ys) (i : ℕ) (h : i < 4) where
-  first-bits : toZ w64 (ofZ w64 (getD xs i (pos 0))) ≡ getD xs i (pos 0)
-  first-bits = toZ-ofZ (wide-fits (omega (arith, w .small i h)))
+-- exponent i of a prime, as the machine holds it
+held-at : (xs : List ℤ) → Limited (drop 32 xs) → (i : ℕ) → i < 4 → toZ w64 (ofZ w64 (getD xs (32 + i) (pos 0))) ≡ getD (drop 32 xs) i (pos 0)
+held-at xs w i h = rw (← getD-drop 32 xs i (pos 0)) (toZ-ofZ (wide-fits (omega (arith, w .small i h))))
 
-  second-bits : toZ w64 (ofZ w64 (getD ys i (pos 0))) ≡ getD ys i (pos 0)
-  second-bits = toZ-ofZ (wide-fits (omega (arith, v .small i h)))
+module _ (xs ys : List ℤ) (w : Limited (drop 32 xs)) (v : Limited (drop 32 ys)) (i : ℕ) (h : i < 4) where
+  first-bits : toZ w64 (ofZ w64 (getD xs (32 + i) (pos 0))) ≡ getD (drop 32 xs) i (pos 0)
+  first-bits = held-at xs w i h
 
-  pub difference-room : natAbs (toZ w64 (ofZ w64 (getD xs i (pos 0)))) + natAbs (toZ w64 (ofZ w64 (getD ys i (pos 0)))) < 2 ^ 63
+  second-bits : toZ w64 (ofZ w64 (getD ys (32 + i) (pos 0))) ≡ getD (drop 32 ys) i (pos 0)
+  second-bits = held-at ys v i h
+
+  pub difference-room : natAbs (toZ w64 (ofZ w64 (getD xs (32 + i) (pos 0)))) + natAbs (toZ w64 (ofZ w64 (getD ys (32 + i) (pos 0)))) < 2 ^ 63
   difference-room = rw (first-bits, second-bits) (omega (arith, w .small i h, v .small i h))
 
   pub record Difference (z : ℤ) : Type 0 where
-    pub is : toZ w64 (ofZ w64 z) ≡ getD xs i (pos 0) -ℤ getD ys i (pos 0)
+    pub is : toZ w64 (ofZ w64 z) ≡ getD (drop 32 xs) i (pos 0) -ℤ getD (drop 32 ys) i (pos 0)
     pub small : natAbs (toZ w64 (ofZ w64 z)) < 2 ^ 30
 
-  pub difference-told : {z : ℤ} → (z ≡ toZ w64 (ofZ w64 (getD xs i (pos 0))) -ℤ toZ w64 (ofZ w64 (getD ys i (pos 0))))
-      × (natAbs z ≤ natAbs (toZ w64 (ofZ w64 (getD xs i (pos 0)))) + natAbs (toZ w64 (ofZ w64 (getD ys i (pos 0))))) → Difference z
+  pub difference-told : {z : ℤ} → (z ≡ toZ w64 (ofZ w64 (getD xs (32 + i) (pos 0))) -ℤ toZ w64 (ofZ w64 (getD ys (32 + i) (pos 0))))
+      × (natAbs z ≤ natAbs (toZ w64 (ofZ w64 (getD xs (32 + i) (pos 0)))) + natAbs (toZ w64 (ofZ w64 (getD ys (32 + i) (pos 0))))) → Difference z
   difference-told {z} e =
       let l : natAbs z < 2 ^ 30 = omega (arith, e .1, ap natAbs first-bits, ap natAbs second-bits, w .small i h, v .small i h) in
       let q : toZ w64 (ofZ w64 z) ≡ z = toZ-ofZ (wide-fits (omega arith)) in
       record { is = q ∙ e .0 ∙ rw (first-bits, second-bits); small = rw q l }
 
-pub ratio-told : {xs ys : List ℤ} (w : Limited xs) (v : Limited ys) {a b c d : ℤ} (h₀ : 0 < 4) (h₁ : 1 < 4) (h₂ : 2 < 4) (h₃ : 3 < 4)
-    → Difference w v 0 h₀ a → Difference w v 1 h₁ b → Difference w v 2 h₂ c → Difference w v 3 h₃ d
-    → (ratio-in (record { twos = toZ w64 (ofZ w64 a); threes = toZ w64 (ofZ w64 b); fives = toZ w64 (ofZ w64 c); others = toZ w64 (ofZ w64 d) }) ≡ over (scale-in xs) (scale-in ys))
+pub ratio-told : (xs ys : List ℤ) (w : Limited (drop 32 xs)) (v : Limited (drop 32 ys)) {a b c d : ℤ} (h₀ : 0 < 4) (h₁ : 1 < 4) (h₂ : 2 < 4) (h₃ : 3 < 4)
+    → Difference xs ys w v 0 h₀ a → Difference xs ys w v 1 h₁ b → Difference xs ys w v 2 h₂ c → Difference xs ys w v 3 h₃ d
+    → (ratio-in (record { twos = toZ w64 (ofZ w64 a); threes = toZ w64 (ofZ w64 b); fives = toZ w64 (ofZ w64 c); others = toZ w64 (ofZ w64 d) })
+    ≡ over (scale-in (drop 32 xs)) (scale-in (drop 32 ys)))
     × Small (record { twos = toZ w64 (ofZ w64 a); threes = toZ w64 (ofZ w64 b); fives = toZ w64 (ofZ w64 c); others = toZ w64 (ofZ w64 d) })
 unfolding over
-ratio-told w v h₀ h₁ h₂ h₃ p q r s = (
+ratio-told xs ys w v h₀ h₁ h₂ h₃ p q r s = (
   λ i. record { of-2 = exponent (p .is i); of-3 = exponent (q .is i); of-5 = exponent (r .is i); of-487 = exponent (s .is i) },
   record { twos = p .small; threes = q .small; fives = r .small; others = s .small },
 )

@@ -10,24 +10,19 @@ use crate::sums::read_sums;
 use crate::sums::same_bases;
 use scan::class::both;
 ghost use mathlib.Core.Path.{_≡_};
+ghost use lib.ListN.{take, drop};
 ghost use Rattle.label.specs.Reading.{Reading};
 ghost use Rattle.label.specs.Conversion.{both-known, converted, conversion};
 ghost use Rattle.conversion.specs.Answers.{conversion-in, Sums, Summed};
 
 // Refusals 8 to 11 between two readings, or the fraction. `known` says whether all units of both are known.
-fn convert_sums(
-    known: bool,
-    first_bases: &[i64; 32],
-    second_bases: &[i64; 32],
-    first_primes: &[i64; 4],
-    second_primes: &[i64; 4],
-) -> Conversion
-    requires { ⌜ Summed (now «first_bases») (now «first_primes») × Summed (now «second_bases») (now «second_primes») ⌝ }
-    ensures { λ r. ⌜ ((a b : Reading) → known ≡ both-known a b → Sums (now («first_bases» .entry)) (now («first_primes» .entry)) a
-        → Sums (now («second_bases» .entry)) (now («second_primes» .entry)) b → conversion-in r ≡ converted a b) ⌝ }
+fn convert_sums(known: bool, first: &[i64; 36], second: &[i64; 36]) -> Conversion
+    requires { ⌜ Summed (take 32 (now first)) (drop 32 (now first)) × Summed (take 32 (now second)) (drop 32 (now second)) ⌝ }
+    ensures { λ r. ⌜ ((a b : Reading) → known ≡ both-known a b → Sums (take 32 (now (first .entry))) (drop 32 (now (first .entry))) a
+        → Sums (take 32 (now (second .entry))) (drop 32 (now (second .entry))) b → conversion-in r ≡ converted a b) ⌝ }
 {
-    let same = same_bases(first_bases, second_bases);
-    let ratio = first_over_second(first_primes, second_primes);
+    let same = same_bases(first, second);
+    let ratio = first_over_second(first, second);
     let whole = are_whole(ratio);
     let x = fraction(ratio);
     let small = is_small(x);
@@ -42,24 +37,16 @@ fn convert_sums(
 pub fn convert(first: u32, s: &[u8], second: u32, t: &[u8]) -> Conversion
     ensures { λ r. ⌜ conversion-in r ≡ conversion first (now (s .entry)) second (now (t .entry)) ⌝ }
 {
-    let mut first_bases: [i64; 32] = [0; 32];
-    let mut first_primes: [i64; 4] = [0; 4];
-    let a = read_sums(first, s, &mut first_bases, &mut first_primes);
+    let mut first_sums: [i64; 36] = [0; 36];
+    let a = read_sums(first, s, &mut first_sums);
     if a.number != 0 {
         return refused(a.number);
     }
-    let mut second_bases: [i64; 32] = [0; 32];
-    let mut second_primes: [i64; 4] = [0; 4];
-    let b = read_sums(second, t, &mut second_bases, &mut second_primes);
+    let mut second_sums: [i64; 36] = [0; 36];
+    let b = read_sums(second, t, &mut second_sums);
     if b.number != 0 {
         return refused(b.number);
     }
     let known = both(a.known, b.known);
-    convert_sums(
-        known,
-        &first_bases,
-        &second_bases,
-        &first_primes,
-        &second_primes,
-    )
+    convert_sums(known, &first_sums, &second_sums)
 }

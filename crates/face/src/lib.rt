@@ -20,21 +20,19 @@ pub extern "C" fn thalinguze_read(notation: u32, label: &[u8], buffer: &mut [u8]
     let mut places: [usize; 66] = [0; 66];
     let mut exponents: [i32; 32] = [0; 32];
     let mut names: [u8; 128] = [0; 128];
-    let mut bases: [i64; 32] = [0; 32];
-    let mut primes: [i64; 4] = [0; 4];
+    let mut sums: [i64; 36] = [0; 36];
     let a = read(
         notation,
         label,
         &mut places,
         &mut exponents,
         &mut names,
-        &mut bases,
-        &mut primes,
+        &mut sums,
     );
     if a.number != 0 {
         return a.number as u32;
     }
-    write_record(buffer, a, &places, &exponents, &names, &bases, &primes);
+    write_record(buffer, a, &places, &exponents, &names, &sums);
     0
 }
 

@@ -1,14 +1,14 @@
 -- What reading a label answers: one law for each way through the code.
-use Prim.Native.Nat.{ℕ, _≤_, _<_, _^_}
+use Prim.Native.Nat.{ℕ, _+_, _≤_, _<_, _^_}
 use native.Mathlib.Omega.{arith}
 use mathlib.Core.Path.{_≡_, refl, sym, ap, _∙_}
 use mathlib.Core.Bool.{true, false, not}
 use mathlib.Core.List.{List, map}
 use lib.IntN.{ℤ}
-use lib.ListN.{length, getD, length-map}
+use lib.ListN.{length, getD, take, drop, length-map}
 use borrow.Author.Tests.{not-true, not-false}
 use Rattle.label.specs.declared.Tens.{Tens}
-use Rattle.label.specs.Reading.{exponent, up-to, dimensions-of, scale-of, refusal, reading-of, answered, reading, refuse, checked}
+use Rattle.label.specs.Reading.{exponent, up-to, dimensions-of, refusal, term, reading-of, answered, reading, refuse, checked}
 use Rattle.label.specs.Reading as spec
 use Rattle.label.proofs.Refusals.{bounds, Outcome, outcome}
 use Rattle.label.proofs.Lettering.{TermSpelt, reading-spelt}
@@ -16,24 +16,31 @@ use Rattle.descent.specs.Terms.{Lent, lent, count}
 use Rattle.content.specs.declared.verdicts.Verdicts.{Verdicts}
 use Rattle.checks.specs.declared.check.Checked.{Checked}
 use Rattle.reading.specs.declared.read.Answer.{Answer}
-use Rattle.content.specs.Views.{term-in, terms-in, scale-in}
-use Rattle.content.specs.Named.{Nameable, AllNamed}
+use Rattle.content.specs.Views.{term-in, terms-in}
+use Rattle.content.specs.Named.{Nameable, LettersIn, NoLetters, AllNamed}
+use Rattle.content.specs.Totals.{AddedUp}
 use Rattle.content.specs.Verdicts.{VerdictsOn}
 use Rattle.content.proofs.Naming.{all-in-at, terms-length, nth-term}
-use Rattle.checks.specs.Checks.{Checks}
+use Rattle.checks.specs.Checks.{units-in, Checks}
 use Rattle.reading.proofs.Lettering.{spelt-at, letters-some, noted-at}
 use Rattle.reading.specs.Views.{reading-in}
-use Rattle.reading.specs.Answers.{answer, Accepted, Reads}
+use Rattle.reading.specs.Answers.{answer, Reads}
 
-pub accepted₁ : {n : ℕ} {s p : List ℕ} {k : Tens} {e : List ℤ} {x : List ℕ} {v : Verdicts} {ds cs : List ℤ} → AllNamed n s (lent p e) x
+-- a label that no refusal is due for
+pub record Accepted (n : ℕ) (s : List ℕ) (k : Tens) (t : Lent) (x : List ℕ) (ds cs : List ℤ) (v : Verdicts) : Type 0 where
+  pub is : reading-in s t x ds cs (answer k v) ≡ reading-of n k (map (term n (length s)) (units-in s t))
+  pub primes : length cs ≡ 4
+  pub letters : (i : ℕ) → i < count t → getD x (32 + i) 0 ≡ 0 → LettersIn s t x i
+  pub no-letters : (i : ℕ) → i < count t → 0 < getD x (32 + i) 0 → NoLetters x i
+
+pub accepted₁ : {n : ℕ} {s p : List ℕ} {k : Tens} {e : List ℤ} {x : List ℕ} {v : Verdicts} {zs : List ℤ} → AllNamed n s (lent p e) x
     → ((s : List ℕ) (t : Lent) → VerdictsOn n (terms-in s t x (count (lent p e))) v)
-    → ((s p' : List ℕ) → map exponent ds ≡ dimensions-of (terms-in s (lent p' e) x (count (lent p e))))
-    → (length cs ≡ 4) × ((s p' : List ℕ) → scale-in cs ≡ scale-of k (terms-in s (lent p' e) x (count (lent p e))))
-    → Accepted n s k (lent p e) x ds cs v
+    → AddedUp k e x (count (lent p e)) zs
+    → Accepted n s k (lent p e) x (take 32 zs) (drop 32 zs) v
 unfolding reading-in reading-of
-accepted₁ {n} {s} {p} {k} {e} w v d c = record {
-  is = rw (v s (lent p e) .known-is, v s (lent p e) .lawful-is, v s (lent p e) .recommended-is, d s p, c .1 s p, w .is);
-  primes = c .0;
+accepted₁ {n} {s} {p} {k} {e} w v a = record {
+  is = rw (v s (lent p e) .known-is, v s (lent p e) .lawful-is, v s (lent p e) .recommended-is, a .dimensions s p, a .scale s p, w .is);
+  primes = a .primes;
   letters = w .letters;
   no-letters = w .no-letters;
 }

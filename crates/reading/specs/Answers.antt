@@ -1,37 +1,28 @@
 -- What the functions that read a label answer.
 use Prim.Native.Nat.{ℕ, _+_, _≤_, _<_}
 use mathlib.Core.Path.{_≡_}
-use mathlib.Core.List.{List, map}
+use mathlib.Core.List.{List}
 use lib.IntN.{ℤ}
 use lib.ListN.{length, getD}
 use Rattle.label.specs.declared.Tens.{Tens}
-use Rattle.label.specs.Reading.{term, reading-of, reading}
+use Rattle.label.specs.Reading.{reading}
 use Rattle.label.specs.Letters.{letters-start, letters-size}
 use Rattle.descent.specs.Terms.{Lent, count, Empty}
-use Rattle.checks.specs.Checks.{units-in}
 use Rattle.content.specs.declared.verdicts.Verdicts.{Verdicts}
 use Rattle.content.specs.Views.{term-in}
-use Rattle.content.specs.Named.{Nameable, LettersIn, NoLetters}
+use Rattle.content.specs.Named.{Nameable}
 use Rattle.content.specs.Sums.{zeros}
 use Rattle.reading.specs.declared.read.Answer.{Answer}
 use Rattle.reading.specs.Views.{reading-in}
 
 -- arrays to read into: no term yet, and sums of nothing
-pub record Fresh (t : Lent) (x : List ℕ) (ds cs : List ℤ) : Type 0 where
+pub record Fresh (t : Lent) (x : List ℕ) (zs : List ℤ) : Type 0 where
   pub terms : Empty t
   pub names : length x ≡ 128
-  pub dimensions : ds ≡ zeros 32
-  pub scale : cs ≡ zeros 4
+  pub sums : zs ≡ zeros 36
 
 abbrev pub answer : Tens → Verdicts → Answer
 answer k v = record { number = 0; k = k; known = v .known; lawful = v .lawful; recommended = v .recommended }
-
--- a label that no refusal is due for
-pub record Accepted (n : ℕ) (s : List ℕ) (k : Tens) (t : Lent) (x : List ℕ) (ds cs : List ℤ) (v : Verdicts) : Type 0 where
-  pub is : reading-in s t x ds cs (answer k v) ≡ reading-of n k (map (term n (length s)) (units-in s t))
-  pub primes : length cs ≡ 4
-  pub letters : (i : ℕ) → i < count t → getD x (32 + i) 0 ≡ 0 → LettersIn s t x i
-  pub no-letters : (i : ℕ) → i < count t → 0 < getD x (32 + i) 0 → NoLetters x i
 
 -- the letters of the unknown unit of term i, one or more, are in the term's spelling
 pub record Lettered (t : Lent) (x : List ℕ) (i : ℕ) : Type 0 where
@@ -44,8 +35,8 @@ pub record LettersNoted (s : List ℕ) (t : Lent) (x : List ℕ) (i : ℕ) : Typ
   pub start : getD x (64 + i) 0 ≡ letters-start (term-in s t x i)
   pub end : getD x (96 + i) 0 ≡ letters-start (term-in s t x i) + letters-size (term-in s t x i)
 
--- "what reading the text s in notation n answers": the number; and where it is 0, all else. Then the array of primes has four places, there
--- are at most 32 terms, whose spellings are in the label, and the letters of an unknown unit are in its term's spelling.
+-- "what reading the text s in notation n answers": the number; and where it is 0, all else. Then there are four exponents of primes, and
+-- at most 32 terms, whose spellings are in the label, and the letters of an unknown unit are in its term's spelling.
 pub record Reads (n : ℕ) (s : List ℕ) (t : Lent) (x : List ℕ) (ds cs : List ℤ) (r : Answer) : Type 0 where
   pub number : r .number ≡ reading n s .number
   pub is : r .number ≡ 0 → reading-in s t x ds cs r ≡ reading n s

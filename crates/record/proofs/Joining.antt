@@ -4,7 +4,7 @@ use native.Mathlib.Omega.{arith}
 use mathlib.Core.Path.{_≡_, refl, sym, ap, _∙_}
 use mathlib.Core.List.{List, [], _∷_, _++_, map, append-assoc, append-nil}
 use lib.IntN.{ℤ, pos}
-use lib.ListN.{length, take, replicate}
+use lib.ListN.{length, take, drop, replicate, length-drop, take-append-drop}
 use lib.Seq.{take-all}
 use Rattle.label.specs.Reading as spec
 use Rattle.label.specs.Reading.{exponent}
@@ -18,7 +18,7 @@ use Rattle.label.specs.Limits.{most-terms}
 use Rattle.label.specs.Units.{base-count}
 use Rattle.reading.specs.Answers.{LettersNoted}
 use Rattle.record.specs.Recordable.{AllNoted}
-use Rattle.record.specs.Record.{field-size, fields-in-head, fields-in-term, fields-in-scale, head-size, term-place, dimensions-place, scale-place, record-size}
+use Rattle.record.specs.Record.{field-size, fields-in-head, fields-in-term, fields-in-scale, head-size, term-place, dimensions-place, record-size}
 use Rattle.record.specs.Record.{complement, digits, eight, encoded, term-fields, terms-fields, empty-fields, sixtieths, scale-fields, head-of, head-fields, fields, record-of}
 
 pub encoded-join : (xs ys : List ℤ) → encoded (xs ++ ys) ≡ encoded xs ++ encoded ys
@@ -81,33 +81,29 @@ cleared b c count h e =
 
 -- THE WHOLE RECORD
 
-to-left : (a b c d e : List ℕ) → a ++ (b ++ (c ++ (d ++ e))) ≡ a ++ b ++ c ++ d ++ e
-to-left a b c d e = sym (append-assoc a b (c ++ (d ++ e))) ∙ sym (append-assoc (a ++ b) c (d ++ e)) ∙ sym (append-assoc (a ++ b ++ c) d e)
+to-left : (a b c d : List ℕ) → a ++ (b ++ (c ++ d)) ≡ a ++ b ++ c ++ d
+to-left a b c d = sym (append-assoc a b (c ++ d)) ∙ sym (append-assoc (a ++ b) c d)
 
-module _ (head ts dimensions scale : List ℤ) (count : ℕ) (b₀ b₁ b₂ b₃ b₄ b₅ : List ℕ) where
-  pub joined-is : length head ≡ fields-in-head → length dimensions ≡ base-count → length scale ≡ fields-in-scale → length b₅ ≡ record-size
+module _ (head ts sums : List ℤ) (count : ℕ) (b₀ b₁ b₂ b₃ b₄ : List ℕ) where
+  pub joined-is : length head ≡ fields-in-head → length sums ≡ base-count + fields-in-scale → length b₄ ≡ record-size
       → take (0 + field-size * length head) b₁ ≡ take 0 b₀ ++ encoded head
       → take (term-place count) b₂ ≡ take head-size b₁ ++ encoded ts
       → take dimensions-place b₃ ≡ take (term-place count) b₂ ++ encoded (empty-fields (most-terms - count))
-      → take (dimensions-place + field-size * length dimensions) b₄ ≡ take dimensions-place b₃ ++ encoded dimensions
-      → take (scale-place + field-size * length scale) b₅ ≡ take scale-place b₄ ++ encoded scale
-      → b₅ ≡ encoded (head ++ (ts ++ (empty-fields (most-terms - count) ++ (dimensions ++ scale))))
-  joined-is h d c l e₁ e₂ e₃ e₄ e₅ =
+      → take (dimensions-place + field-size * length sums) b₄ ≡ take dimensions-place b₃ ++ encoded sums
+      → b₄ ≡ encoded (head ++ (ts ++ (empty-fields (most-terms - count) ++ sums)))
+  joined-is h d l e₁ e₂ e₃ e₄ =
       let x₁ : 0 + field-size * length head ≡ head-size = omega (arith, h) in
-      let x₄ : dimensions-place + field-size * length dimensions ≡ scale-place = omega (arith, d) in
-      let x₅ : scale-place + field-size * length scale ≡ record-size = omega (arith, c) in
+      let x₄ : dimensions-place + field-size * length sums ≡ record-size = omega (arith, d) in
       let none = empty-fields (most-terms - count) in
       let y₁ : take head-size b₁ ≡ encoded head = rw x₁ at e₁ in
-      let y₄ : take scale-place b₄ ≡ take dimensions-place b₃ ++ encoded dimensions = rw x₄ at e₄ in
-      let y₅ : take record-size b₅ ≡ take scale-place b₄ ++ encoded scale = rw x₅ at e₅ in
-      sym (take-all record-size b₅ (omega (arith, l)))
-      ∙ rw (y₅, y₄, e₃, e₂, y₁)
+      let y₄ : take record-size b₄ ≡ take dimensions-place b₃ ++ encoded sums = rw x₄ at e₄ in
+      sym (take-all record-size b₄ (omega (arith, l)))
+      ∙ rw (y₄, e₃, e₂, y₁)
       (sym
-      (encoded-join head (ts ++ (none ++ (dimensions ++ scale)))
+      (encoded-join head (ts ++ (none ++ sums))
       ∙ ap (λ (xs : List ℕ). encoded head ++ xs)
-      (encoded-join ts (none ++ (dimensions ++ scale))
-      ∙ ap (λ (xs : List ℕ). encoded ts ++ xs) (encoded-join none (dimensions ++ scale) ∙ ap (λ (xs : List ℕ). encoded none ++ xs) (encoded-join dimensions scale)))
-      ∙ to-left (encoded head) (encoded ts) (encoded none) (encoded dimensions) (encoded scale)))
+      (encoded-join ts (none ++ sums) ∙ ap (λ (xs : List ℕ). encoded ts ++ xs) (encoded-join none sums))
+      ∙ to-left (encoded head) (encoded ts) (encoded none) (encoded sums)))
 
 -- THE RECORD
 
@@ -124,8 +120,10 @@ same-scale (a ∷ b ∷ c ∷ []) h = absurd (omega arith)
 same-scale (a ∷ b ∷ c ∷ d ∷ e ∷ es) h = absurd (omega arith)
 
 -- the numbers of a reading, from its parts
-pub fields-are : (s : List ℕ) (t : Lent) (x : List ℕ) (ds cs : List ℤ) (a : Answer) {h : List ℤ} → length cs ≡ 4
+pub fields-are : (s : List ℕ) (t : Lent) (x : List ℕ) (zs : List ℤ) (a : Answer) {h : List ℤ} → length zs ≡ base-count + fields-in-scale
     → h ≡ head-of (a .number) (a .k) (a .known) (a .lawful) (a .recommended) (count t)
-    → encoded (h ++ (terms-fields (terms-in s t x (count t)) ++ (empty-fields (most-terms - count t) ++ (ds ++ cs)))) ≡ record-of (reading-in s t x ds cs a)
+    → encoded (h ++ (terms-fields (terms-in s t x (count t)) ++ (empty-fields (most-terms - count t) ++ zs))) ≡ record-of (reading-in s t x (take 32 zs) (drop 32 zs) a)
 unfolding reading-in head-fields fields record-of
-fields-are s t x ds cs a e q = rw (q, terms-length s t x (count t), same-sixtieths ds, same-scale cs e)
+fields-are s t x zs a e q =
+    let c : length (drop 32 zs) ≡ 4 = omega (arith, e, length-drop 32 zs) in
+    rw (q, terms-length s t x (count t), same-sixtieths (take 32 zs), same-scale (drop 32 zs) c, take-append-drop 32 zs)

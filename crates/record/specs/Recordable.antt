@@ -20,8 +20,7 @@ pub record Sized (t : Lent) (x : List ℕ) (i : ℕ) : Type 0 where
 pub record AllNoted (s : List ℕ) (t : Lent) (x : List ℕ) (n : ℕ) : Type 0 where
   pub noted : (i : ℕ) → i < n → LettersNoted s t x i
 
-pub record Recordable (t : Lent) (x : List ℕ) (ds cs : List ℤ) : Type 0 where
+pub record Recordable (t : Lent) (x : List ℕ) (zs : List ℤ) : Type 0 where
   pub few : count t ≤ most-terms
   pub sized : (i : ℕ) → i < count t → Sized t x i
-  pub dimensions : length ds ≡ base-count
-  pub scale : length cs ≡ fields-in-scale
+  pub sums : length zs ≡ base-count + fields-in-scale

@@ -5,7 +5,7 @@ use reading::read::Answer;
 ghost use mathlib.Core.Path.{_≡_};
 ghost use mathlib.Core.List.{List};
 ghost use Prim.Native.Nat.{ℕ};
-ghost use lib.ListN.{getD};
+ghost use lib.ListN.{take, drop, getD};
 ghost use Rattle.descent.specs.Terms.{lent};
 ghost use Rattle.reading.specs.Views.{reading-in};
 ghost use Rattle.record.specs.Record.{record-of, written-over};
@@ -18,18 +18,17 @@ pub fn write_record(
     places: &[usize; 66],
     exponents: &[i32; 32],
     names: &[u8; 128],
-    bases: &[i64; 32],
-    primes: &[i64; 4],
+    sums: &[i64; 36],
 )
-    requires { ⌜ Recordable (lent (now places) (now exponents)) (now names) (now bases) (now primes) ⌝ }
+    requires { ⌜ Recordable (lent (now places) (now exponents)) (now names) (now sums) ⌝ }
     ensures { λ _. ⌜ ((s : List ℕ) → AllNoted s (lent (now (places .entry)) (now (exponents .entry))) (now (names .entry)) (getD (now (places .entry)) 64 0)
         → now (buffer .exit) ≡ written-over (record-of (reading-in s
-        (lent (now (places .entry)) (now (exponents .entry))) (now (names .entry)) (now (bases .entry)) (now (primes .entry)) a))
+        (lent (now (places .entry)) (now (exponents .entry))) (now (names .entry)) (take 32 (now (sums .entry))) (drop 32 (now (sums .entry))) a))
         (now (buffer .entry))) ⌝ }
 {
     if buffer.len() < RECORD_SIZE {
         let mut whole = [0; RECORD_SIZE];
-        put_record(&mut whole, a, places, exponents, names, bases, primes);
+        put_record(&mut whole, a, places, exponents, names, sums);
         let room = buffer.len();
         bytes::copy(&whole[..room], buffer);
         return;
@@ -40,7 +39,6 @@ pub fn write_record(
         places,
         exponents,
         names,
-        bases,
-        primes,
+        sums,
     );
 }

@@ -9,7 +9,7 @@ use reading::read::Answer;
 ghost use Prim.Native.Nat.{ℕ, _+_, _*_, _-_, _≤_, _<_};
 ghost use mathlib.Core.Path.{_≡_};
 ghost use mathlib.Core.List.{List, _++_};
-ghost use lib.ListN.{length, take, getD};
+ghost use lib.ListN.{length, take, drop, getD};
 ghost use Rattle.label.specs.Limits.{most-terms};
 ghost use Rattle.descent.specs.Terms.{lent};
 ghost use Rattle.content.specs.Views.{terms-in};
@@ -32,9 +32,7 @@ const TERM_SIZE: usize = FIELD_SIZE * TERM_FIELDS;
 
 const DIMENSIONS_PLACE: usize = HEAD_SIZE + TERM_SIZE * MOST_TERMS;
 
-const SCALE_PLACE: usize = DIMENSIONS_PLACE + FIELD_SIZE * BASES;
-
-pub const RECORD_SIZE: usize = SCALE_PLACE + FIELD_SIZE * PRIMES;
+pub const RECORD_SIZE: usize = DIMENSIONS_PLACE + FIELD_SIZE * (BASES + PRIMES);
 
 // Writes the first `count` terms.
 fn put_terms(
@@ -65,19 +63,17 @@ pub fn put_record(
     places: &[usize; 66],
     exponents: &[i32; 32],
     names: &[u8; 128],
-    bases: &[i64; 32],
-    primes: &[i64; 4],
+    sums: &[i64; 36],
 )
-    requires { ⌜ (length (now b) ≡ record-size) × Recordable (lent (now places) (now exponents)) (now names) (now bases) (now primes) ⌝ }
+    requires { ⌜ (length (now b) ≡ record-size) × Recordable (lent (now places) (now exponents)) (now names) (now sums) ⌝ }
     ensures { λ _. ⌜ ((s : List ℕ) → AllNoted s (lent (now (places .entry)) (now (exponents .entry))) (now (names .entry)) (getD (now (places .entry)) 64 0)
         → now (b .exit) ≡ record-of (reading-in s (lent (now (places .entry)) (now (exponents .entry)))
-        (now (names .entry)) (now (bases .entry)) (now (primes .entry)) a)) ⌝ }
+        (now (names .entry)) (take 32 (now (sums .entry))) (drop 32 (now (sums .entry))) a)) ⌝ }
 {
     let count = places[64];
     let head = head_fields(a, count);
     put_all(b, 0, &head);
     put_terms(b, count, places, exponents, names);
     clear(b, HEAD_SIZE + TERM_SIZE * count, DIMENSIONS_PLACE);
-    put_all(b, DIMENSIONS_PLACE, bases);
-    put_all(b, SCALE_PLACE, primes);
+    put_all(b, DIMENSIONS_PLACE, sums);
 }

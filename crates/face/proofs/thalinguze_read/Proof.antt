@@ -12,6 +12,9 @@ thalinguze-read-spec =
     (λ c κs. search needs)
     (λ c. search needs)
     (λ c. search (refused, arith))
-    (λ c κs. search (recordable, arith))
+    (λ c κs.
+    let accepted = c .before .before .before .before .before in
+    let read = accepted .before .before .read in
+    recordable (read .last .1 .1 .1 .1 .1 .0) (read .ensures) (accepted .if1 .left))
     (λ c. search needs)
     (λ c. search (accepted, arith)))

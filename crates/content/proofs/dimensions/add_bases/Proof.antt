@@ -2,6 +2,7 @@
 use Prim.Native.Nat.{ℕ, _<_, _≤_, _-_}
 use native.Mathlib.Omega.{arith}
 use mathlib.Core.Path.{sym}
+use lib.ListN.{length}
 use mathlib.Core.List.{List, []}
 use borrow.Author.Needs.{needs}
 use Rattle.symbols.specs.Views.{symbol-in, slot-in}
@@ -22,6 +23,10 @@ abbrev μ-loop : tie.MeasureT-loop
 base-below : (c : tie.After-slot-base Inv-loop μ-loop) → c .slot-base .result < 32
 base-below c = rw (c .slot-base .ensures []) (slot-base-in (c .before .before .loop .slot) (omega arith) _)
 
+-- and a place of the sums
+base-within : (c : tie.After-slot-base Inv-loop μ-loop) → c .slot-base .result < length (c .before .before .loop .sums)
+base-within c = let at = c .before .before in omega (arith, base-below c, at .loop .inv .1 [] .room, at .before .before .pre .1 .1 .room)
+
 pub add-bases-spec : {M : Type 1} → statement M
 add-bases-spec =
     tie.close
@@ -33,7 +38,7 @@ add-bases-spec =
     (λ c. search needs)
     (λ c κs. search needs)
     (λ c. omega (arith, base-below (c .before)))
-    (λ c. base-below (c .before))
+    (λ c. base-within (c .before))
     (λ c κs.
     let at = c .before .before .before .before in
     let start = at .before .before in
@@ -43,7 +48,7 @@ add-bases-spec =
     (c .before .before .slot-base .ensures []) (c .before .slot-power .ensures [])
     (omega (arith, slot-small (at .loop .slot) h (symbol-in [] (start .args .x)))))
     (λ c. omega (arith, base-below (c .before .before .before)))
-    (λ c. base-below (c .before .before .before))
+    (λ c. base-within (c .before .before .before))
     (λ c. search needs)
     (λ c. search needs)
     (λ c.
@@ -59,4 +64,5 @@ add-bases-spec =
           (omega (arith, slot-small (at .loop .slot) h (symbol-in s (start .args .x)))) _
           (omega (arith, base-below based, start .pre .1 .1 .room)) (c .plus .ensures),
     ))
+    (λ c. c .before .loop .inv .1 [] .room)
     (λ c. λ s. all-gathered (c .before .loop .inv .1 s) (omega arith) _ (λ b l. sym (slots-are b _))))

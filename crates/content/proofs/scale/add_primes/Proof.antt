@@ -2,6 +2,7 @@
 use Prim.Native.Nat.{ℕ, _<_, _≤_, _-_}
 use native.Mathlib.Omega.{arith}
 use mathlib.Core.Path.{refl}
+use lib.ListN.{length}
 use mathlib.Core.List.{List, []}
 use borrow.Author.Needs.{needs}
 use Rattle.label.specs.Units.{_↑_}
@@ -21,6 +22,9 @@ Inv-loop prefixes primes x e sums₀ prime₀ sums prime =
 abbrev μ-loop : tie.MeasureT-loop
 μ-loop prefixes primes x e sums₀ prime₀ sums prime = 4 - prime
 
+prime-within : (c : tie.In-loop Inv-loop μ-loop) → c .before .loop .prime < length (c .before .loop .sums)
+prime-within c = let at = c .before in omega (arith, at .loop .inv .1 [] .room, at .before .pre .1 .1 .room)
+
 pub add-primes-spec : {M : Type 1} → statement M
 add-primes-spec =
     tie.close
@@ -30,7 +34,7 @@ add-primes-spec =
     (λ c. (omega arith, λ s. none-gathered _ _ _))
     (λ c κs. search needs)
     (λ c. search needs)
-    (λ c. search needs)
+    (λ c. prime-within (c .before))
     (λ c κs.
     let at = c .before .before .before in
     let start = at .before in
@@ -38,7 +42,7 @@ add-primes-spec =
     may-add
     (at .loop .inv .1 []) (start .pre .1 .1 .small) h _ _ refl (c .before .prime-power .ensures []) (prime-small (at .loop .prime) h _))
     (λ c. search needs)
-    (λ c. search needs)
+    (λ c. prime-within (c .before .before .before))
     (λ c. search needs)
     (λ c. search needs)
     (λ c.
@@ -51,6 +55,7 @@ add-primes-spec =
           (at .loop .inv .1 s) (start .pre .1 .1 .small) h _ _ refl (c .before .before .prime-power .ensures s)
           (prime-small (at .loop .prime) h _) _ (omega (arith, start .pre .1 .1 .room)) (c .plus .ensures),
     ))
+    (λ c. c .before .loop .inv .1 [] .room)
     (λ c.
     λ s.
     let room = c .before .before .pre .1 .1 .room in

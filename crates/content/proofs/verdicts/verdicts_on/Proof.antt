@@ -13,12 +13,12 @@ use Rattle.content.proofs.verdicts.verdicts_on.Statement.{statement}
 use Rattle.content.proofs.verdicts.verdicts_on.Tie as tie
 
 abbrev Inv-loop : tie.InvT-loop
-Inv-loop prefixed recommended n count names all-known₀ all-lawful₀ all-recommended₀ i₀ all-known all-lawful all-recommended i =
+Inv-loop n count names prefixed recommended all-known₀ all-lawful₀ all-recommended₀ i₀ all-known all-lawful all-recommended i =
     (i ≤ count)
     × ((s : List ℕ) (t : Lent) → VerdictsOn n (terms-in s t names i) (record { known = all-known; lawful = all-lawful; recommended = all-recommended }))
 
 abbrev μ-loop : tie.MeasureT-loop
-μ-loop prefixed recommended n count names all-known₀ all-lawful₀ all-recommended₀ i₀ all-known all-lawful all-recommended i =
+μ-loop n count names prefixed recommended all-known₀ all-lawful₀ all-recommended₀ i₀ all-known all-lawful all-recommended i =
     count - i
 
 loop-holds : tie.Need-loop-holds Inv-loop μ-loop
@@ -31,23 +31,30 @@ verdicts-on-spec =
     (tie.spec
     Inv-loop
     μ-loop
+    (λ c κs. search needs)
+    (λ c κs. search needs)
     loop-holds
     (λ c κs. search needs)
     (λ c κs. search needs)
+    (λ c. search needs)
     (λ c κs. search needs)
     (λ c κs. search needs)
+    (λ c. search needs)
     (λ c κs. search needs)
     (λ c κs. search needs)
     (λ c. search needs)
     (λ c. search needs)
     (λ c.
-    let at = c .before .before .before .before .before .before .before in
-    let symbol = c .before .before .before .before .before .symbol-at in (
+    let recommended = c .before in
+    let lawful = recommended .before .before .before in
+    let known = lawful .before .before in
+    let symbol = known .before in
+    let at = symbol .before .before in (
       omega arith,
       λ s t.
-          verdicts-more s t _ (at .loop .i) (symbol .result) (symbol .ensures s) (at .loop .inv .1 s t) (c .before .before .before .before .both .ensures)
-          (c .before .before .both2 .ensures) (c .before .before .before .is-lawful .ensures s)
-          (c .both3 .ensures) (c .before .is-recommended .ensures s),
+          verdicts-more s t _ (at .loop .i) (symbol .symbol-at .result) (symbol .symbol-at .ensures s) (at .loop .inv .1 s t) (known .both .ensures)
+          (recommended .before .before .both2 .ensures) (lawful .is-lawful .ensures s)
+          (c .both3 .ensures) (recommended .is-recommended .ensures s),
     ))
     (λ c.
     λ s t.

@@ -22,14 +22,11 @@ put-record-spec =
     (λ c. search needs)
     (λ c κs. search needs)
     (λ c κs. search needs)
-    (λ c κs. search needs)
     (λ c. search needs)
     (λ c.
     λ s w.
-    let put₅ = c .before .before .put-all3 in
-    let rest₅ = c .before .before .before .before .before in
-    let put₄ = rest₅ .before .before .put-all2 in
-    let rest₄ = rest₅ .before .before .before .before .before in
+    let put₄ = c .before .before .put-all2 in
+    let rest₄ = c .before .before .before .before .before in
     let put₃ = rest₄ .before .before .clear in
     let rest₃ = rest₄ .before .before .before .before in
     let put₂ = rest₃ .before .before .put-terms in
@@ -38,9 +35,9 @@ put-record-spec =
     let head = rest₂ .before .before .before .before .before .head-fields in
     let start = rest₂ .before .before .before .before .before .before .before .before in
     let x = start .args in
-    let room : length (put₅ .last .0) ≡ record-size = put₅ .kept .0 ∙ put₄ .kept .0 ∙ put₃ .kept .0 ∙ put₂ .kept .0 ∙ put₁ .kept .0 ∙ start .pre .0 in
+    let room : length (put₄ .last .0) ≡ record-size = put₄ .kept .0 ∙ put₃ .kept .0 ∙ put₂ .kept .0 ∙ put₁ .kept .0 ∙ start .pre .0 in
     joined-is
-    (head .result) (terms-fields (terms-in s (lent (x .places .now) (x .exponents .now)) (x .names .now) (getD (x .places .now) 64 0))) (x .bases .now) (x .primes .now) (getD (x .places .now) 64 0) (x .b .now) (put₁ .last .0) (put₂ .last .0) (put₃ .last .0) (put₄ .last .0) (put₅ .last .0)
-    (ap length (head .ensures)) (start .pre .1 .dimensions) (start .pre .1 .scale) room
-    (put₁ .ensures) (put₂ .ensures s w) (cleared (put₂ .last .0) (put₃ .last .0) (getD (x .places .now) 64 0) (start .pre .1 .few) (put₃ .ensures)) (put₄ .ensures) (put₅ .ensures)
-    ∙ fields-are s (lent (x .places .now) (x .exponents .now)) (x .names .now) (x .bases .now) (x .primes .now) (x .a) (start .pre .1 .scale) (head .ensures)))
+    (head .result) (terms-fields (terms-in s (lent (x .places .now) (x .exponents .now)) (x .names .now) (getD (x .places .now) 64 0))) (x .sums .now) (getD (x .places .now) 64 0) (x .b .now) (put₁ .last .0) (put₂ .last .0) (put₃ .last .0) (put₄ .last .0)
+    (ap length (head .ensures)) (start .pre .1 .sums) room
+    (put₁ .ensures) (put₂ .ensures s w) (cleared (put₂ .last .0) (put₃ .last .0) (getD (x .places .now) 64 0) (start .pre .1 .few) (put₃ .ensures)) (put₄ .ensures)
+    ∙ fields-are s (lent (x .places .now) (x .exponents .now)) (x .names .now) (x .sums .now) (x .a) (start .pre .1 .sums) (head .ensures)))

@@ -59,16 +59,14 @@ pub fn rewrite(n: u32, s: &[u8], m: u32, buffer: &mut [u8]) -> Rewritten
     let mut places: [usize; 66] = [0; 66];
     let mut exponents: [i32; 32] = [0; 32];
     let mut names: [u8; 128] = [0; 128];
-    let mut bases: [i64; 32] = [0; 32];
-    let mut primes: [i64; 4] = [0; 4];
+    let mut sums: [i64; 36] = [0; 36];
     let a = read(
         n,
         s,
         &mut places,
         &mut exponents,
         &mut names,
-        &mut bases,
-        &mut primes,
+        &mut sums,
     );
     if a.number != 0 {
         return Rewritten {

@@ -6,3 +6,4 @@ pub mod NameTable
 pub mod UnitTexts
 pub mod LabelTexts
 pub mod Delivering
+pub mod Refusing

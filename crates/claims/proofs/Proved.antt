@@ -8,10 +8,11 @@ use Rattle.label.proofs.AsWritten.{exponents-written}
 use Rattle.label.proofs.Bounds.{bounds-kept}
 use Rattle.label.proofs.Sources.{rewriting-content, rewriting-again}
 use Rattle.label.proofs.Formed.{refusals-are-due, refuses-answered, never-twelve}
+use Rattle.label.proofs.Refusing.{fourteen-due, earlier-due}
 use Rattle.label.specs.Samples.{SamplesHold}
 use Rattle.claims.proofs.Lowest.{lowest}
 use Rattle.claims.proofs.Sixtieths.{whole-divides, divides-whole}
-use Rattle.claims.specs.Claims.{ParseIsTheGrammar, ParseRefusesTheRest, Unambiguous, RefusalsAreTheConditions, BoundsAreKept, RefusalsAreEmpty, ZeroIsAcceptance, AcceptedContent, ExponentsAsWritten, AnswersComeFromTheTerms, KnownVerdict, LawfulVerdict, RecommendedVerdict, DimensionsAreSums, ScaleIsASum, AtMostOneKnownRest, SixtiethsAreTheBound, ShownInLowestTerms, GrammarsAgree, NotationsAgree, RewrittenReadsAsTheSame, RewritingRefusals, RefusedRewritesAreEmpty, OwnNotationHasForms, RewrittenOnceForAll}
+use Rattle.claims.specs.Claims.{ParseIsTheGrammar, ParseRefusesTheRest, Unambiguous, RefusalsAreTheConditions, BoundsAreKept, RefusalsAreEmpty, ZeroIsAcceptance, AcceptedContent, ExponentsAsWritten, AnswersComeFromTheTerms, KnownVerdict, LawfulVerdict, RecommendedVerdict, DimensionsAreSums, ScaleIsASum, AtMostOneKnownRest, SixtiethsAreTheBound, ShownInLowestTerms, GrammarsAgree, NotationsAgree, RewrittenReadsAsTheSame, RewritingRefusals, RefusedRewritesAreEmpty, FourteenIsAShortBuffer, EarlierWhateverTheBuffer, OwnNotationHasForms, RewrittenOnceForAll}
 use Rattle.claims.proofs.Conversions.{factor-once}
 use Rattle.claims.proofs.ConversionAnswers.{gives-converts, number-due, due-refused, zero-undue}
 use Rattle.claims.proofs.Inverses.{converts-itself, converts-inverse}
@@ -93,6 +94,12 @@ rewriting-refusals n s m i l = refusals-are-due n s m i l
 
 pub refused-rewrites-are-empty : RefusedRewritesAreEmpty
 refused-rewrites-are-empty n s m i d = refuses-answered n s m d
+
+pub fourteen-is-a-short-buffer : FourteenIsAShortBuffer
+fourteen-is-a-short-buffer size n s m = fourteen-due size n s m
+
+pub earlier-whatever-the-buffer : EarlierWhateverTheBuffer
+earlier-whatever-the-buffer size n s m i l h = earlier-due size n s m i l h
 
 pub own-notation-has-forms : OwnNotationHasForms
 own-notation-has-forms n s h = never-twelve n s h

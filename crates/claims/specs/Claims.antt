@@ -18,7 +18,7 @@ use Rattle.label.specs.Split.{Split, Valued, valued, Refused, Accepts}
 use Rattle.label.specs.Reading.{Term, reading-of, reading}
 use Rattle.label.specs.Agreement.{Gives}
 use Rattle.label.specs.Meaning.{_∈_, Prefixable, Named, unrecommended, Sum, BaseIn, dimension, PrimeIn, prime-in-ten, scale-exponent, Empty, AsWritten, PowerKeeps, FactorKeeps}
-use Rattle.label.specs.Writing.{refuse, rewriting, Refuses, SameContent}
+use Rattle.label.specs.Writing.{refuse, rewriting, rewriting-into, Refuses, SameContent}
 
 -- DEMAND 2, READING
 
@@ -151,6 +151,13 @@ RewritingRefusals = (n : ℕ) (s : List ℕ) (m i : ℕ) → 1 ≤ i → (rewrit
 
 abbrev pub RefusedRewritesAreEmpty : Type 0
 RefusedRewritesAreEmpty = (n : ℕ) (s : List ℕ) (m i : ℕ) → Refuses n s m i → rewriting n s m ≡ refuse i
+
+-- 14 is given exactly when "the lent buffer is shorter than the result" (a refused rewriting has no bytes), and 1 to 13 as without a buffer.
+abbrev pub FourteenIsAShortBuffer : Type 0
+FourteenIsAShortBuffer = (size n : ℕ) (s : List ℕ) (m : ℕ) → (rewriting-into size n s m .number ≡ 14) ↔ (size < length (rewriting n s m .text))
+
+abbrev pub EarlierWhateverTheBuffer : Type 0
+EarlierWhateverTheBuffer = (size n : ℕ) (s : List ℕ) (m i : ℕ) → 1 ≤ i → i ≤ 13 → (rewriting-into size n s m .number ≡ i) ↔ Refuses n s m i
 
 -- A label has a form in its own notation.
 abbrev pub OwnNotationHasForms : Type 0

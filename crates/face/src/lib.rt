@@ -8,7 +8,8 @@ use rewriting::rewrite::rewrite;
 ghost use mathlib.Core.Path.{_≡_};
 ghost use Rattle.label.specs.Reading.{reading};
 ghost use Rattle.record.specs.Record.{buffer-after};
-ghost use Rattle.rewriting.specs.Buffers.{rewriting-into, buffer-with, Answers};
+ghost use Rattle.label.specs.Writing.{rewriting-into, buffer-with};
+ghost use Rattle.rewriting.specs.Buffers.{Answers};
 ghost use lib.ListN.{length};
 
 // Reads the label in a notation and answers the number of the refusal, or 0 and the reading's record in the lent buffer.

@@ -34,4 +34,5 @@ pub mod Parts
 pub mod Sources
 pub mod Forms
 pub mod Formed
+pub mod Refusing
 pub mod Bounded

@@ -324,6 +324,22 @@ rewriting n s m =
     (unless (notation m) 1
     (sized (written-reading m s (reading n s))))
 
+-- THE LENT BUFFER
+
+-- 14: "the lent buffer is shorter than the result"
+unfoldable pub fitted : ℕ → Rewriting → Rewriting
+fitted size x = unless (leb (length (x .text)) size) 14 x
+
+-- what rewriting the label s of notation n in notation m answers, with a lent buffer of so many bytes
+unfoldable pub rewriting-into : ℕ → ℕ → List ℕ → ℕ → Rewriting
+rewriting-into size n s m = fitted size (rewriting n s m)
+
+-- "A refused rewrite has length 0 and the buffer keeps all its bytes; an accepted one changes only the bytes of its result."
+unfoldable pub buffer-with : Rewriting → List ℕ → List ℕ
+buffer-with x b = x .text ++ drop (length (x .text)) b
+
+-- REFUSALS AND CONTENT
+
 -- refusal i of rewriting is due: "Given exactly when no earlier one applies and" its condition holds
 pub data Refuses (n : ℕ) (s : List ℕ) (m : ℕ) : ℕ → Type 0 where
   source : {i : ℕ} → Refused i n s → Refuses n s m i

@@ -9,7 +9,8 @@ use Rattle.label.specs.Writing.{unless}
 use Rattle.label.specs.Writing.{rewriting}
 use Rattle.label.proofs.Bounded.{rewriting-bounded}
 use Rattle.rewriting.specs.declared.rewrite.Rewritten.{Rewritten}
-use Rattle.rewriting.specs.Buffers.{fitted, rewriting-into, buffer-with, Answers}
+use Rattle.label.specs.Writing.{fitted, rewriting-into, buffer-with}
+use Rattle.rewriting.specs.Buffers.{Answers}
 use Rattle.lines.specs.Writing.{Puts}
 
 module _ (n : ℕ) (s : List ℕ) (m : ℕ) (b c : List ℕ) (r : Rewritten) (room : 255 ≤ length b) where

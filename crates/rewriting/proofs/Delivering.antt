@@ -30,7 +30,8 @@ use Rattle.rewriting.specs.declared.style.Style.{Style}
 use Rattle.rewriting.specs.Texts.{room, Holds}
 use Rattle.rewriting.specs.Styles.{style-in, StyleOf}
 use Rattle.rewriting.specs.Units.{TermOf, AllTerms}
-use Rattle.rewriting.specs.Buffers.{fitted, rewriting-into, buffer-with, Answers}
+use Rattle.label.specs.Writing.{fitted, rewriting-into, buffer-with}
+use Rattle.rewriting.specs.Buffers.{Answers}
 
 -- REFUSALS
 

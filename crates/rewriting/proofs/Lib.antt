@@ -6,4 +6,3 @@ pub mod NameTable
 pub mod UnitTexts
 pub mod LabelTexts
 pub mod Delivering
-pub mod Refusing

@@ -1,7 +1,7 @@
 // The name that a known unit takes in the target.
-use symbols::lookup::is_name;
 use symbols::keys::has_notation;
 use symbols::keys::key;
+use symbols::lookup::is_name;
 ghost use Prim.Native.Nat.{ℕ, _≤_, _<_};
 ghost use mathlib.Core.Path.{_≡_};
 ghost use mathlib.Core.List.{List};

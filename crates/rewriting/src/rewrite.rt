@@ -10,7 +10,8 @@ ghost use Prim.Native.Nat.{ℕ};
 ghost use lib.ListN.{length};
 ghost use Rattle.label.specs.Writing.{sized};
 ghost use Rattle.rewriting.specs.Texts.{room, Holds};
-ghost use Rattle.rewriting.specs.Buffers.{fitted, rewriting-into, buffer-with, Answers};
+ghost use Rattle.label.specs.Writing.{fitted, rewriting-into, buffer-with};
+ghost use Rattle.rewriting.specs.Buffers.{Answers};
 
 // The number of the refusal, or 0 and how many bytes the result has.
 #[repr(C)]
@@ -60,14 +61,7 @@ pub fn rewrite(n: u32, s: &[u8], m: u32, buffer: &mut [u8]) -> Rewritten
     let mut exponents: [i32; 32] = [0; 32];
     let mut names: [u8; 128] = [0; 128];
     let mut sums: [i64; 36] = [0; 36];
-    let a = read(
-        n,
-        s,
-        &mut places,
-        &mut exponents,
-        &mut names,
-        &mut sums,
-    );
+    let a = read(n, s, &mut places, &mut exponents, &mut names, &mut sums);
     if a.number != 0 {
         return Rewritten {
             number: a.number as u32,

@@ -8,10 +8,9 @@ use mathlib.Core.List.{List}
 use lib.Dec.{leb}
 use lib.ListN.{length}
 use borrow.Author.Tests.{leb-false, le-leb, lt-leb}
 use Rattle.label.proofs.Refusals.{bounds}
 use Rattle.label.proofs.Formed.{refuses-answered, refusals-are-due}
-use Rattle.label.specs.Writing.{Rewriting, refuse, unless, rewriting, Refuses}
-use Rattle.rewriting.specs.Buffers.{fitted, rewriting-into}
+use Rattle.label.specs.Writing.{unless, fitted, rewriting, rewriting-into, Refuses}
 
 below-fourteen : {n m i : ℕ} {s : List ℕ} → Refuses n s m i → i ≤ 13
 below-fourteen (Refuses.source d) = omega (arith, bounds (d .holds))

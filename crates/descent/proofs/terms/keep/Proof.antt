@@ -1,4 +1,5 @@
 -- `descent::terms::keep` meets its contract: each way is one of `TermSteps`. The answers are in the order of the code.
+use native.Mathlib.Omega.{arith}
 use mathlib.Core.Path.{refl}
 use borrow.Author.Needs.{needs}
 use mir.Facts.{toZ-ofZ}
@@ -27,6 +28,6 @@ keep-spec =
     (λ c. search needs)
     (λ c.
     let start = c .before .before .before .before .before in
-    kept-in-room (start .pre .0) refl (c .before .before .marked .ensures) (search (toZ-ofZ, needs)) (c .before .if1 .taken))
+    kept-in-room (start .pre .0) refl (c .before .before .marked .ensures) (search (toZ-ofZ, needs)) (omega (arith, c .before .if1 .taken)))
     -- no room for it
-    (λ c. kept-without-room (c .before .before .before .before .pre .0) refl (c .before .marked .ensures) (c .if1 .left)))
+    (λ c. kept-without-room (c .before .before .before .before .pre .0) refl (c .before .marked .ensures) (omega (arith, c .if1 .left))))

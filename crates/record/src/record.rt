@@ -14,7 +14,7 @@ ghost use Rattle.label.specs.Limits.{most-terms};
 ghost use Rattle.descent.specs.Terms.{lent};
 ghost use Rattle.content.specs.Views.{terms-in};
 ghost use Rattle.reading.specs.Views.{reading-in};
-ghost use Rattle.record.specs.Record.{encoded, terms-fields, empty-fields, record-of, head-size, term-place, dimensions-place, record-size};
+ghost use Rattle.record.specs.Record.{encoded, terms-fields, record-of, head-size, term-place, dimensions-place, record-size};
 ghost use Rattle.record.specs.Recordable.{Sized, AllNoted, Recordable};
 
 const FIELD_SIZE: usize = 8;

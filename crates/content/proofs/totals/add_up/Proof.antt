@@ -12,7 +12,7 @@ part-scale-end : tie.Need-part-scale-end
 part-scale-end c =
     let bases = c .before .dimensions in
     let start = c .before .before .before in
-    halfway-room (start .args .sums .now) (bases .last .1 .1 .1 .0) (start .pre .1) (bases .kept .1 .1 .1 .0)
+    omega (arith, halfway-room (start .args .sums .now) (bases .last .1 .1 .1 .0) (start .pre .1) (bases .kept .1 .1 .1 .0))
 
 scale-requires : tie.Need-scale-requires
 scale-requires c κs =

@@ -98,6 +98,9 @@ module _ {n : ℕ} {s : List ℕ} {z : Lent} {c : Checked} (w : Checks n s z c) 
         spelt : (i : ℕ) → i < count z → TermSpelt s (term-in s z x i)
         spelt i h = spelt-at s z x (count z) i (rw (← ap (λ (u : spec.Reading). u .terms) whole) at (reading-spelt n s)) h
 
+pub read-few : {n : ℕ} {s p : List ℕ} {e : List ℤ} {c : Checked} → Checks n s (lent p e) c → not (c .ok) ≡ false → getD p 64 0 ≤ 32
+read-few w t = read-nameable w t .few
+
 -- WHAT THE ARRAYS HOLD
 
 -- term i of the reading, by the arrays

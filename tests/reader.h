@@ -1,10 +1,16 @@
-/* The form of thalinguze_read. */
+/* The form of thalinguze_read, and converting in that form. */
 #ifndef READER_H
 #define READER_H
 
 #include <stddef.h>
 #include <stdint.h>
+#include "../include/thalinguze.h"
 
 typedef uint32_t reader(uint32_t notation, const uint8_t *label, size_t label_size, uint8_t *record, size_t record_size);
+
+static inline uint32_t convert_to_itself(uint32_t notation, const uint8_t *label, size_t label_size, uint8_t *record, size_t record_size)
+{
+    return thalinguze_convert(notation, label, label_size, notation, label, label_size, record, record_size);
+}
 
 #endif

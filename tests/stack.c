@@ -35,12 +35,6 @@ static const struct shape shapes[] = {
     {"", "'m'", "", ""}, {"10**3'", "m", "'", ""},
 };
 
-/* the two calls, in the form of the first */
-static uint32_t convert_to_itself(uint32_t notation, const uint8_t *label, size_t label_size, uint8_t *record, size_t record_size)
-{
-    return thalinguze_convert(notation, label, label_size, notation, label, label_size, record, record_size);
-}
-
 static const struct {
     const char *name;
     reader *call;

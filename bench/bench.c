@@ -1,5 +1,5 @@
-/* How long reading and converting take and how much stack, as tables in Markdown: bench. The figures are ratios of one run: in each round every reader
-   reads all labels, and the best round of each counts. Nothing is timed before the readers agree on every label. */
+/* How long reading, rewriting and converting take and how much stack, as tables in Markdown: bench. The figures are ratios of one run: in
+   each round every reader reads all labels, and the best round of each counts. Nothing is timed before the readers agree on every label. */
 #define _POSIX_C_SOURCE 200809L
 #include <time.h>
 #include "../tests/labels.h"
@@ -152,18 +152,18 @@ static void table_of_readers(void)
     printf("\nAt most 3 times plain C: %s, %.2f.\n\n", sums[0] <= 3 * sums[1] ? "reached" : "not reached", sums[0] / sums[1]);
 }
 
-/* converting a label to itself, which reads it twice, beside reading it */
-static void table_of_conversions(void)
+/* another call beside reading; the limit is 2.5 times a reading */
+static void table_of_calls(const char *name, reader *call)
 {
-    reader *const readers[MAX_READERS] = {convert_to_itself, thalinguze_read, NULL};
+    reader *const readers[MAX_READERS] = {call, thalinguze_read, NULL};
     double ns[MAX_READERS], most = 0;
-    printf("| ns a label | converting to itself | reading | converting / reading |\n|---|---|---|---|\n");
+    printf("| ns a label | %s | reading | ratio |\n|---|---|---|---|\n", name);
     for (uint32_t notation = 1; notation <= NOTATIONS; notation++) {
         time_readers(readers, ns, &lists[notation], PASSES);
         printf("| %s | %.0f | %.0f | %.2f |\n", notation_names[notation], ns[0], ns[1], ns[0] / ns[1]);
         most = ns[0] / ns[1] > most ? ns[0] / ns[1] : most;
     }
-    printf("\nConverting at most 2.5 times a reading: %s, %.2f.\n\n", most <= 2.5 ? "reached" : "not reached", most);
+    printf("\nAt most 2.5 times a reading: %s, %.2f.\n\n", most <= 2.5 ? "reached" : "not reached", most);
 }
 
 static struct list taken_by(reader *read, const struct list *from)
@@ -272,7 +272,9 @@ int main(void)
         read_list(notation);
     check_all();
     table_of_readers();
-    table_of_conversions();
+    table_of_calls("rewriting in VOUnits", rewrite_in_vounits);
+    /* which reads the label twice */
+    table_of_calls("converting to itself", convert_to_itself);
     double beside_wcslib = table_beside("wcslib", read_by_wcslib);
     if (beside_wcslib > 0)
         printf("At most 0.4 of wcslib on FITS labels: %s, %.2f.\n\n", beside_wcslib <= 0.4 ? "reached" : "not reached", beside_wcslib);

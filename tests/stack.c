@@ -1,5 +1,6 @@
 /* How much stack a call takes at most: stack [LIMIT] [COUNT]. Reads labels of repeated parts, as deep and as long as 255 bytes allow,
-   under the notation numbers 0 to 5, and COUNT random labels, and converts each to itself. Bytes are counted from the caller's frame on. */
+   under the notation numbers 0 to 5, and COUNT random labels, rewrites each in VOUnits and converts each to itself. Bytes are counted from
+   the caller's frame on. */
 #define _POSIX_C_SOURCE 200809L
 #include "labels.h"
 #include "painted.h"
@@ -38,7 +39,7 @@ static const struct shape shapes[] = {
 static const struct {
     const char *name;
     reader *call;
-} measured[] = {{"reading", thalinguze_read}, {"converting", convert_to_itself}};
+} measured[] = {{"reading", thalinguze_read}, {"rewriting", rewrite_in_vounits}, {"converting", convert_to_itself}};
 
 struct worst {
     const char *name;
@@ -92,7 +93,7 @@ static void measure_shape(const struct shape *shape, unsigned times)
 static void print_worst(size_t limit)
 {
     enum { SHOWN = 24 };
-    printf("%lu readings and as many conversions took at most %zu bytes of stack, %zu allowed: %s, notation %u, %zu bytes, ", calls,
+    printf("%lu readings, rewritings and conversions each took at most %zu bytes of stack, %zu allowed: %s, notation %u, %zu bytes, ", calls,
            worst.use, limit, worst.name, (unsigned)worst.notation, worst.size);
     for (size_t i = 0; i < worst.size && i < SHOWN; i++)
         putchar(worst.label[i] >= 0x20 && worst.label[i] < 0x7f ? worst.label[i] : '?');

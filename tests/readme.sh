@@ -25,6 +25,7 @@ shows() { # THE COMMAND'S FIRST WORDS, THE LINES BELOW IT
     while read -r line; do grep -qxF "    $line" README.md || fail "it does not print: $line"; done <"$out/said"
 }
 shows "printf '3 "
+shows "printf 't1"
 sed -n '/^    gcc -I include/s/^    //p' README.md | sh -e
 shows 'build\/example$'
 

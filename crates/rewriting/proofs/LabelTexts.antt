@@ -161,15 +161,15 @@ module _ {s : List ℕ} {t : Lent} {x : List ℕ} {i : ℕ} (w : TermOf s t x i)
   own-part e = rw (← v .is s, e, ← c .size, drop-between s (getD (t .places) i 0) (getD (t .places) (32 + i) 0) (code / 65536))
 
   pub term-is : {own : Own} {e : ℤ} → OwnOf (between s (getD (t .places) i 0 + code / 65536) (getD (t .places) (32 + i) 0)) own → e ≡ getD (t .exponents) i (pos 0)
-      → TermIs s (term-in s t x i) (record { unit = u; own = own; exponent = e })
+      → TermIs s (term-in s t x i) (record { unit = u; own = own; exponent = record { 0 = e } })
   term-is o q = record { unit = v .is s; lettered = lettered; own = λ e. rw (own-part e) o; exponent = rw q }
 
 -- what a term is written as: its unit, then its exponent
 pub term-written : (y : Style) (m : ℕ) (s : List ℕ) (r : Coded) {b c d : List ℕ} {at p q name : ℕ} {x : NameRange}
     → NamesOf (r .unit .unit) x → ((l : List ℕ) → OwnOf l (r .own) → name-at name ≡ name-in m l (names-in x))
     → ((own : List ℕ) → Takes m own (r .unit) name → Writes b at (symbol-text y m own (symbol-in s (r .unit))) c p)
-    → (z : ℤ) → z ≡ r .exponent → Writes c p (exponent-text y (exponent z)) d q
+    → Writes c p (exponent-text y (r .exponent)) d q
     → (t : Term) → TermIs s t r → Writes b at (unit-text y m (writable s t)) d q
 unfolding unit-text writable
-term-written y m s r n f u z q e t w =
-    rw (← w .unit, ← w .exponent, ← q) (writes-then (u (own-letters (symbol-in s (r .unit)) (bytes-at s t)) (record { takes = λ k. f _ (rw (w .unit) (w .own k)) ∙ ap (λ (xs : List Name). name-in m (own-letters (symbol-in s (r .unit)) (bytes-at s t)) xs) (n .are) })) e)
+term-written y m s r n f u e t w =
+    rw (← w .unit, ← w .exponent) (writes-then (u (own-letters (symbol-in s (r .unit)) (bytes-at s t)) (record { takes = λ k. f _ (rw (w .unit) (w .own k)) ∙ ap (λ (xs : List Name). name-in m (own-letters (symbol-in s (r .unit)) (bytes-at s t)) xs) (n .are) })) e)

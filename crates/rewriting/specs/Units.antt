@@ -9,7 +9,6 @@ use Rattle.label.specs.Choice.{pick}
 use Rattle.label.specs.Ranges.{between}
 use Rattle.label.specs.Limits.{most-bytes, most-terms}
 use Rattle.label.specs.Units.{unit-at}
-use Rattle.label.specs.Reading.{exponent}
 use Rattle.label.specs.Reading as reading
 use Rattle.label.specs.Agreement.{bytes-at}
 use Rattle.label.specs.Writing.{Style, Writable, prefix-letters, name-in, both-texts, unit-text, more-text, own-letters}
@@ -66,7 +65,7 @@ pub record TermIs (s : List ℕ) (t : reading.Term) (r : Term) : Type 0 where
   pub unit : symbol-in s (r .unit) ≡ t .symbol
   pub lettered : Lettered s (r .unit)
   pub own : r .unit .known ≡ true → OwnOf (own-letters (t .symbol) (bytes-at s t)) (r .own)
-  pub exponent : exponent (r .exponent) ≡ t .exponent
+  pub exponent : r .exponent ≡ t .exponent
 
 -- what label-text has after the factor
 unfoldable pub terms-text : Style → ℕ → List Writable → Option (List ℕ)

@@ -6,6 +6,7 @@ use crate::numbers::push_sign;
 use crate::style::Style;
 use crate::text::push;
 use crate::text::push_stars;
+use label::Exponent;
 ghost use Prim.Native.Nat.{_≤_, _^_};
 ghost use mathlib.Core.Path.{_≡_};
 ghost use mathlib.Core.Bool.{false, _&&_};
@@ -16,7 +17,6 @@ ghost use lib.IntN.{pos};
 ghost use lib.ListN.{length};
 ghost use Rattle.label.specs.Choice.{pick};
 ghost use Rattle.label.specs.Limits.{denominator-of};
-ghost use Rattle.label.specs.Reading.{exponent as exponent-of};
 ghost use Rattle.label.specs.Writing.{figures, sign, whole-text, fraction-text, power-text, exponent-text};
 ghost use Rattle.rewriting.specs.Texts.{room, Writes};
 ghost use Rattle.rewriting.specs.Styles.{style-in};
@@ -149,18 +149,18 @@ fn push_power(
     push_whole(text, at, style, negative, n)
 }
 
-// Writes an exponent in sixtieths.
-pub fn push_exponent(text: &mut [u8; 260], at: usize, style: Style, exponent: i32) -> usize
+// Writes an exponent.
+pub fn push_exponent(text: &mut [u8; 260], at: usize, style: Style, exponent: Exponent) -> usize
     requires { ⌜ length (now text) ≡ room ⌝ }
-    ensures { λ r. ⌜ Writes (now (text .entry)) at (exponent-text (style-in style) (exponent-of exponent)) (now (text .exit)) r ⌝ }
+    ensures { λ r. ⌜ Writes (now (text .entry)) at (exponent-text (style-in style) exponent) (now (text .exit)) r ⌝ }
 {
-    let sixtieths = magnitude(exponent);
+    let sixtieths = magnitude(exponent.0);
     let d = denominator(sixtieths);
     push_power(
         text,
         at,
         style,
-        is_negative(exponent),
+        is_negative(exponent.0),
         sixtieths * d / 60,
         d,
     )

@@ -11,6 +11,7 @@ use crate::text::push;
 use crate::unit::prefix_code;
 use crate::unit::push_symbol;
 use content::named::number_at;
+use label::Exponent;
 use label::Tens;
 use symbols::Symbol;
 use symbols::tables::name_codes;
@@ -31,11 +32,11 @@ ghost use Rattle.rewriting.specs.Styles.{style-in};
 ghost use Rattle.rewriting.specs.Names.{first-places};
 ghost use Rattle.rewriting.specs.Units.{Lettered, SymbolAt, TermOf, TermIs, AllTerms, terms-text};
 
-// A term of the source: its unit, the letters of its name, and its exponent in sixtieths.
+// A term of the source: its unit, the letters of its name, and its exponent.
 struct Term {
     unit: Symbol,
     own: Own,
-    exponent: i32,
+    exponent: Exponent,
 }
 
 // What the spelling of term `i` stands for.
@@ -83,10 +84,11 @@ fn term_at(
     let start = places[i];
     let end = places[32 + i];
     let own = letters_in(s, start + (code / 65536) as usize, end);
+    let exponent = Exponent(exponents[i]);
     Term {
         unit,
         own,
-        exponent: exponents[i],
+        exponent,
     }
 }
 
@@ -113,8 +115,8 @@ fn push_term(
     let unit = term.unit;
     let span = names_of(firsts, unit.unit);
     let name = name_in(keys, codes, style.notation, span, term.own);
-    let exponent = push_symbol(text, at, keys, codes, prefixes, style, s, unit, name);
-    push_exponent(text, exponent, style, term.exponent)
+    let after = push_symbol(text, at, keys, codes, prefixes, style, s, unit, name);
+    push_exponent(text, after, style, term.exponent)
 }
 
 // Writes the terms, of which there is at least one, with what joins them.

@@ -1,15 +1,8 @@
 -- `rewriting::whole::push_term` meets its contract: the unit, then the exponent.
-use native.Mathlib.Omega.{arith}
-use mir.Syntax.{w32}
-use mir.Val.{SFits}
-use mir.Facts.{toZ-ofZ}
 use borrow.Author.Needs.{needs}
 use Rattle.rewriting.proofs.LabelTexts.{term-written}
 use Rattle.rewriting.proofs.whole.push_term.Statement.{statement}
 use Rattle.rewriting.proofs.whole.push_term.Tie as tie
-
-exponent-fit : (c : tie.After-struct-told) → SFits w32 (c .before .before .before .before .before .before .before .before .before .before .before .before .args .term .exponent)
-exponent-fit c = record { sfits = omega arith }
 
 push-symbol-requires : tie.Need-push-symbol-requires
 push-symbol-requires c κs =
@@ -17,8 +10,10 @@ push-symbol-requires c κs =
     (start .pre .0, ((start .pre .1 .0 .0, start .pre .1 .0 .1 .0), (start .pre .1 .1 .1, (start .pre .1 .1 .0, c .before .name-in .ensures .1))))
 
 returns : tie.Need-returns
-returns c =
-    (λ t w. term-written _ _ _ _ (c .before .before .before .before .before .before .names-of .ensures) (c .before .before .before .before .before .name-in .ensures .0) (c .before .before .before .push-symbol .ensures .0) _ (toZ-ofZ (exponent-fit (c .before))) (c .push-exponent .ensures) t w, c .push-exponent .ensures .kept)
+returns c = (
+  λ t w. term-written _ _ _ _ (c .before .before .before .before .before .names-of .ensures) (c .before .before .before .before .name-in .ensures .0) (c .before .before .push-symbol .ensures .0) (c .push-exponent .ensures) t w,
+  c .push-exponent .ensures .kept,
+)
 
 pub push-term-spec : {M : Type 1} → statement M
 push-term-spec =

@@ -79,7 +79,7 @@ push-terms-spec =
     push-term-requires
     loop-holds
     push-requires
-    (λ c. search needs)
+    (λ c. sym (codes-count (c .before .before .before .before .before .before .before .before .before .before .before .before .before .before .before .prefix-codes .ensures)))
     term-at-requires-2
     (λ c. sym (key-column-count (c .before .before .before .before .before .before .before .before .before .before .before .before .before .before .before .before .before .before .before .before .name-keys .ensures)))
     (λ c. sym (code-column-count (c .before .before .before .before .before .before .before .before .before .before .before .before .before .before .before .before .before .before .before .before .name-codes .ensures)))

@@ -109,6 +109,24 @@ module _ {f : ℕ → BasePower} {k : ℕ} {e : Exponent} {xs ys : List ℤ} (g 
         growth = λ m v. record { within = λ b. rw (next-at b) (place-within m b (g .growth m v) (eqb b p)) };
       })
 
+-- A power of 0 adds nothing.
+adds-none : (b : ℕ) (x : BasePower) → x .power ≡ pos 0 → adds b x ≡ pos 0
+adds-none b x z = rw z (go (eqb b (x .base)))
+  where
+    go : (t : Bool) → pick t (pos 0) (pos 0) ≡ pos 0
+    go true = refl
+    go false = refl
+
+pub none-added : {f : ℕ → BasePower} {k : ℕ} {e : Exponent} {xs ys : List ℤ} → Gathered f k e xs ys
+    → (q : ℤ) → q ≡ f k .power → mag (f k .power) ≤ 53 → ofZ w32 q ≡ 0 → Gathered f (k + 1) e xs ys
+unfolding first-adds
+none-added {f} {k} {e} {xs} {ys} g q is small z = rw (add-one k) (record {
+  room = g .room;
+  added = λ b l. g .added b l ∙ ap (λ (a : ℤ). getD xs b (pos 0) +ℤ a *ℤ e .0)
+      (sym (ap (λ (a : ℤ). first-adds f k b +ℤ a) (adds-none b (f k) (sym (held q (f k .power) is small) ∙ ap (toZ w32) z)) ∙ +ℤ-idr (first-adds f k b)));
+  growth = λ m v. record { within = λ b. omega (arith, g .growth m v .within b) };
+})
+
 -- FOUR POWERS
 
 module _ {f : ℕ → BasePower} {k : ℕ} {e : Exponent} {xs ys : List ℤ} (g : Gathered f k e xs ys) (h : k ≡ 4) where

@@ -25,9 +25,11 @@ fn add_bases(bases: &[u8], powers: &[i8], x: Symbol, e: Exponent, sums: &mut [i6
 {
     let mut slot = 0;
     while slot < 4 {
-        let base = slot_base(bases, x, slot) as usize;
         let power = slot_power(powers, x, slot);
-        sums[base] = plus(sums[base], power, e);
+        if power != 0 {
+            let base = slot_base(bases, x, slot) as usize;
+            sums[base] = plus(sums[base], power, e);
+        }
         slot += 1;
     }
 }

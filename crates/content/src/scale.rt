@@ -29,7 +29,9 @@ fn add_primes(prefixes: &[i8], primes: &[i8], x: Symbol, e: Exponent, sums: &mut
     let mut prime = 0;
     while prime < 4 {
         let power = prime_power(prefixes, primes, x, prime);
-        sums[prime] = plus(sums[prime], power, e);
+        if power != 0 {
+            sums[prime] = plus(sums[prime], power, e);
+        }
         prime += 1;
     }
 }

@@ -4,6 +4,7 @@ use native.Mathlib.Omega.{arith}
 use mathlib.Core.Path.{refl}
 use lib.ListN.{length}
 use mathlib.Core.List.{List, []}
+use mathlib.Core.Logic.{⊎-elim}
 use borrow.Author.Needs.{needs}
 use Rattle.label.specs.Units.{_↑_}
 use Rattle.label.specs.Reading.{prime-in}
@@ -11,7 +12,7 @@ use Rattle.symbols.specs.Slots.{prime-at}
 use Rattle.symbols.specs.Views.{symbol-in}
 use Rattle.symbols.proofs.UnitLaws.{prime-small}
 use Rattle.content.proofs.SlotLaws.{primes-add}
-use Rattle.content.proofs.SumLaws.{Gathered, none-gathered, may-add, one-gathered, all-gathered}
+use Rattle.content.proofs.SumLaws.{Gathered, none-gathered, may-add, one-gathered, none-added, all-gathered}
 use Rattle.content.proofs.scale.add_primes.Statement.{statement}
 use Rattle.content.proofs.scale.add_primes.Tie as tie
 
@@ -34,26 +35,33 @@ add-primes-spec =
     (λ c. (omega arith, λ s. none-gathered _ _ _))
     (λ c κs. search needs)
     (λ c. search needs)
-    (λ c. prime-within (c .before))
+    (λ c. prime-within (c .before .before))
     (λ c κs.
-    let at = c .before .before .before in
+    let at = c .before .before .before .before in
     let start = at .before in
     let h : at .loop .prime < 4 = omega arith in
     may-add
-    (at .loop .inv .1 []) (start .pre .1 .1 .small) h _ _ refl (c .before .prime-power .ensures []) (prime-small (at .loop .prime) h _))
+    (at .loop .inv .1 []) (start .pre .1 .1 .small) h _ _ refl (c .before .before .prime-power .ensures []) (prime-small (at .loop .prime) h _))
     (λ c. search needs)
-    (λ c. prime-within (c .before .before .before))
+    (λ c. prime-within (c .before .before .before .before))
     (λ c. search needs)
     (λ c. search needs)
     (λ c.
-    let at = c .before .before .before .before in
+    let at = c .before .before .before in
     let start = at .before in
     let h : at .loop .prime < 4 = omega arith in (
       omega arith,
       λ s.
-          one-gathered
-          (at .loop .inv .1 s) (start .pre .1 .1 .small) h _ _ refl (c .before .before .prime-power .ensures s)
-          (prime-small (at .loop .prime) h _) _ (omega (arith, start .pre .1 .1 .room)) (c .plus .ensures),
+          ⊎-elim
+          (λ w.
+          rw (w .3)
+          (one-gathered
+          (at .loop .inv .1 s) (start .pre .1 .1 .small) h _ _ refl (c .before .prime-power .ensures s)
+          (prime-small (at .loop .prime) h _) _ (omega (arith, start .pre .1 .1 .room)) (w .2 .ensures)))
+          (λ w.
+          rw (w .1)
+          (none-added (at .loop .inv .1 s) _ (c .before .prime-power .ensures s) (prime-small (at .loop .prime) h _) (w .0 .left)))
+          (c .if1 .came),
     ))
     (λ c. c .before .loop .inv .1 [] .room)
     (λ c.

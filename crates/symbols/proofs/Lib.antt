@@ -5,6 +5,7 @@ pub mod RowLaws
 pub mod KeyLaws
 pub mod SetLaws
 pub mod Quotes
+pub mod GroupLaws
 pub mod NameLaws
 pub mod PrefixLaws
 pub mod CutLaws

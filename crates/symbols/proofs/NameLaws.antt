@@ -1,5 +1,5 @@
 -- The search of a name: the list of names finds what the table of units finds, and the columns have its key and its code.
-use Prim.Native.Nat.{ℕ, suc, _+_, _/_, _%_, _≤_, _<_}
+use Prim.Native.Nat.{ℕ, zero, suc, _+_, _/_, _%_, _≤_, _<_}
 use native.Mathlib.Omega.{arith}
 use native.Mathlib.Numerals.{add-one}
 use mathlib.Core.Path.{_≡_, refl, sym, _∙_}
@@ -18,9 +18,11 @@ use Rattle.label.specs.Symbols.{has-name, row-named, unit-named}
 use Rattle.symbols.specs.Keys.{most-letters, key-from, key-of, agrees}
 use Rattle.symbols.specs.Sets.{bits, has-bit}
 use Rattle.symbols.specs.Names.{Entry, entries-of, entries-from, names}
+use Rattle.symbols.specs.Groups.{groups}
 use Rattle.symbols.specs.Columns.{name-keys, name-code, name-codes, NameColumns}
 use Rattle.symbols.specs.Views.{place}
 use Rattle.symbols.proofs.Computing.{columns-compute}
+use Rattle.symbols.proofs.GroupLaws.{start, start-upto, before-start}
 use Rattle.symbols.proofs.KeyLaws.{keyable, long-other, Spelled, agrees-spelled}
 use Rattle.symbols.proofs.SetLaws.{alike, told-by-bits, bit-member}
 use Rattle.symbols.proofs.RowLaws.{every, every-at, first, first-none, Sought, sought-none, sought-all, sought-hit, sought-miss}
@@ -198,3 +200,15 @@ module _ {ks cs : List ℕ} {n : ℕ} {l : List ℕ} {size number : ℕ} where
       spelled = w .spelled;
       sought = sought-miss nobody (omega (arith, names-count)) (w .sought) (told ∙ t);
     }
+
+  -- a search can start at the first name of the spelling's group
+  pub search-start : NameColumns ks cs → Spelled l size number → Searching ks cs n l size number (start (number % groups))
+  search-start w v = go (start (number % groups)) (omega arith)
+    where
+      other : (i : ℕ) → i < start (number % groups) → false ≡ (agrees size number (getD cs i 0 / 65536) (getD ks i 0) && has-bit n (getD cs i 0 / 256 % 256))
+      other i h = rw (w .keys-are, before-start number i h)
+
+      go : (i : ℕ) → i ≤ start (number % groups) → Searching ks cs n l size number i
+      go zero h = search-none w v
+      go (suc i) h =
+          rw (add-one i) at (search-miss {i = i} (omega (arith, h, start-upto (number % groups))) (go i (omega (arith, h))) (other i (omega (arith, h))) refl)

@@ -2,6 +2,7 @@
 pub mod Keys
 pub mod Sets
 pub mod Names
+pub mod Groups
 pub mod Columns
 pub mod Views
 pub mod Slots

@@ -1,4 +1,5 @@
 // Spellings of units: constant tables of prefixes and known units, and the symbol that a spelling stands for.
+pub mod groups;
 pub mod keys;
 pub mod lookup;
 pub mod properties;

@@ -2,6 +2,7 @@
 use crate::Cut;
 use crate::Span;
 use crate::Symbol;
+use crate::groups::first_in_group;
 use crate::keys::first_quote;
 use crate::keys::has_notation;
 use crate::keys::key;
@@ -24,6 +25,9 @@ ghost use Rattle.symbols.specs.Views.{place, symbol-in, Bounded, UpTo, L
 const NAMES: usize = 67;
 
 const PREFIXES: usize = 20;
+
+// In how many groups the keys of the names are.
+const GROUPS: u64 = 147;
 
 const MOST_LETTERS: usize = 8;
 
@@ -48,7 +52,7 @@ pub fn unit_named(keys: &[u64], codes: &[u32], n: u8, s: &[u8], start: usize, en
         return 0;
     }
     let number = key(s, start, end);
-    let mut i = 0;
+    let mut i = first_in_group(number % GROUPS) as usize;
     while i < NAMES {
         let code = codes[i];
         if is_name(n, size, number, keys[i], code) {

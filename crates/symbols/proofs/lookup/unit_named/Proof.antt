@@ -5,7 +5,7 @@ use borrow.Author.Needs.{needs}
 use Rattle.label.specs.Ranges.{between}
 use Rattle.symbols.proofs.Parts.{length-between}
 use Rattle.symbols.proofs.KeyLaws.{spelled-part}
-use Rattle.symbols.proofs.NameLaws.{Searching, search-none, search-hit, search-miss, search-all, too-long, unit-room}
+use Rattle.symbols.proofs.NameLaws.{Searching, search-start, search-hit, search-miss, search-all, too-long, unit-room}
 use Rattle.symbols.proofs.NameLaws.{key-column-count, code-column-count}
 use Rattle.symbols.proofs.lookup.unit_named.Statement.{statement}
 use Rattle.symbols.proofs.lookup.unit_named.Tie as tie
@@ -27,12 +27,18 @@ returns c =
 key-requires : tie.Need-key-requires Inv-loop μ-loop
 key-requires c κs = search needs
 
+first-in-group-requires : tie.Need-first-in-group-requires Inv-loop μ-loop
+first-in-group-requires c κs = search needs
+
+cast-i : tie.Need-cast-i Inv-loop μ-loop
+cast-i c = omega arith
+
 loop-holds : tie.Need-loop-holds Inv-loop μ-loop
 loop-holds c =
-    let start = c .before .before .before .before .before in
+    let start = c .before .before .before .before .before .before in
     let a = start .args in
-    search-none (start .pre .0)
-    (spelled-part (a .s .now) (a .start) (a .end) (start .pre .1 .0) (start .pre .1 .1) (c .before .before .shared-slice-known3 .given) _ (c .key .ensures))
+    let spelled = spelled-part (a .s .now) (a .start) (a .end) (start .pre .1 .0) (start .pre .1 .1) (c .before .before .before .shared-slice-known3 .given) _ (c .before .key .ensures) in
+    rw (c .first-in-group .ensures) (search-start (start .pre .0) spelled)
 
 mul-code : tie.Need-mul-code Inv-loop μ-loop
 mul-code c = omega arith
@@ -81,6 +87,8 @@ unit-named-spec =
     sub-size
     returns
     key-requires
+    first-in-group-requires
+    cast-i
     loop-holds
     mul-code
     shared-slice-read-code

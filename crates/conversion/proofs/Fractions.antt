@@ -17,7 +17,7 @@ use Rattle.conversion.specs.declared.fraction.Ratio.{Ratio}
 use Rattle.conversion.specs.Powers.{up, down, Held}
 use Rattle.conversion.specs.Answers.{ratio-in, Small, Nearly}
 
--- a small number is told by its bits
+-- a small number is identified by its bits
 bits : (z : ℤ) → natAbs z < 2 ^ 31 → toZ w64 (ofZ w64 z) ≡ z
 bits z h = toZ-ofZ (wide-fits (omega arith))
 

@@ -22,7 +22,7 @@ pub data ExponentBy (r : Rules) : List ℕ → Written → Type 0 where
   stars : {e : List ℕ} {w : Written} → r .stars ≡ true → Power e w → ExponentBy r (star-byte ∷ star-byte ∷ e) w
   caret : {e : List ℕ} {w : Written} → r .caret ≡ true → Power e w → ExponentBy r (caret-byte ∷ e) w
 
--- spaces around a star, a point or a slash, or behind a space that joins
+-- spaces around a star, a point or a slash, or after a space that joins
 pub data Pad (r : Rules) : List ℕ → Type 0 where
   none : Pad r []
   space : {s : List ℕ} → r .spaces ≡ true → Pad r s → Pad r (space-byte ∷ s)

@@ -23,7 +23,7 @@ use Rattle.label.proofs.Sound.{read-sound}
 
 -- HOW A PRODUCT STARTS
 
--- a unit or a group, or a leading slash behind spaces
+-- a unit or a group, or a leading slash after spaces
 pub data Starts (r : Rules) : List ℕ → Type 0 where
   begun : {s : List ℕ} → Begins s → Starts r s
   slashed : {a : List ℕ} → r .each ≡ true → Pad r a → (s : List ℕ) → Starts r (a ++ 47 ∷ s)
@@ -115,7 +115,7 @@ unpadded {r} s e o GapBy.nothing = go (r .space)
 unpadded s e o (GapBy.one f) = rw f
 unpadded s e o (GapBy.many f p) = absurd (false-true (sym e ∙ f))
 
--- what is read behind the gap
+-- what is read after the gap
 gap-derived : {r : Rules} {g s : List ℕ} {ps : List Part} → GapBy r g → G r quotient s [] ps → G r quotient (gap r (g ++ s)) [] ps
 unfolding gap
 gap-derived {r} {g} {s} {ps} w d = go (r .spaces) refl

@@ -54,7 +54,7 @@ closed-complete : {A B : Type 0} (f : A → B) (x : Found A) (a : A) (rest : Lis
 unfolding closed then byte
 closed-complete f x a rest e = rw e
 
--- an opening bracket and what is found behind it
+-- an opening bracket and what is found after it
 record Opened (s : List ℕ) (w : Written) (rest : List ℕ) : Type 0 where
   behind : List ℕ
   opens : s ≡ 40 ∷ behind
@@ -81,7 +81,7 @@ bracketed-complete (Bracketed.a-fraction {s = s} {d = d} i u) rest =
           (closed-complete _ _ d rest (unsigned-complete u (41 ∷ rest) (Stops.other refl)));
     }
 
--- a power that no bracket begins is the integer there, one that a bracket begins what is found behind it
+-- a power that no bracket begins is the integer there, one that a bracket begins what is found after it
 numeric-power : {s : List ℕ} {n : Numeral} {rest : List ℕ} → Numeric s → integer s ≡ found n rest → power s ≡ found (whole n) rest
 unfolding power mapped
 numeric-power (Numeric.numeric a b c d) e = rw (d, e)
@@ -198,7 +198,7 @@ pub letters-all : {l : List ℕ} → Letters l → T (all letter l)
 unfolding all
 letters-all (Letters.letters {c = c} {s = s} t a) = T-and (letter c) (all letter s) t a
 
--- the letters behind a quote, and the closing quote
+-- the letters after a quote, and the closing quote
 quoted-complete : (p : List ℕ) {l : List ℕ} → Letters l → (rest : List ℕ) → quoted p (l ++ 39 ∷ rest) ≡ found (p ++ 39 ∷ l ++ 39 ∷ []) rest
 unfolding quoted quoted-on byte letter
 quoted-complete p (Letters.letters {c = c} {s = s} t a) rest =
@@ -221,7 +221,7 @@ unfolding lettered
 lettered-complete r l Unlettered.end = refl
 lettered-complete r l (Unlettered.other a b) = rw b
 
--- a quote behind a prefix name
+-- a quote after a prefix name
 prefixed-complete : (r : Rules) (p s : List ℕ) → r .quotes ≡ true → PrefixName p → lettered r p (39 ∷ s) ≡ quoted p s
 unfolding lettered
 prefixed-complete r p s f (PrefixName.named t) = rw (f, T→true (prefix-name p) t)

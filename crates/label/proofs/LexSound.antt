@@ -111,7 +111,7 @@ integer-sound (c ∷ s) n rest h = let w = integer-by c s n rest h in (w .0, any
 
 -- POWERS
 
--- the byte v, a text that is its own value, and a closing bracket, behind the integer i
+-- the byte v, a text that is its own value, and a closing bracket, after the integer i
 behind-integer : (i : List ℕ) (f : List ℕ → Written) (P : List ℕ → Type 0) (c v : ℕ) (x : Found (List ℕ)) (s : List ℕ) (w : Written) (rest : List ℕ) → eqb c v ≡ true
     → ((d : List ℕ) → P d → Bracketed (40 ∷ i ++ v ∷ d ++ 41 ∷ []) (f d)) → ((d t : List ℕ) → x ≡ found d t → Begins (Itself P) s d t)
     → closed f x ≡ found w rest → Begins (Behind (40 ∷ i) Bracketed) (c ∷ s) w rest
@@ -136,7 +136,7 @@ bracketed-on-sound n i d (c ∷ s) w rest h = go (eqb c 41) (eqb c 46) (eqb c 47
     go false false true p q o h = behind-integer i (fraction n) Unsigned c 47 (unsigned s) s w rest o (λ e t. Bracketed.a-fraction d t) (λ e t q. unsigned-sound s e t q) h
     go false false false p q o h = absurd (none-found h)
 
--- a power in brackets, from behind the opening one
+-- a power in brackets, from after the opening one
 bracketed-sound : (s : List ℕ) (w : Written) (rest : List ℕ) → bracketed s ≡ found w rest → Begins (Behind (40 ∷ []) Bracketed) s w rest
 unfolding bracketed
 bracketed-sound s w rest h =
@@ -197,7 +197,7 @@ exponent-sound r (c ∷ s) w rest h =
 quoted-text : (p : List ℕ) (c : ℕ) (s l t out rest : List ℕ) → c ≡ 39 → s ≡ l ++ t → t ≡ 39 ∷ rest → p ++ 39 ∷ l ++ 39 ∷ [] ≡ out → p ++ c ∷ s ≡ out ++ rest
 quoted-text p c s l t out rest e a b q = rw (← q, e, a, b, append-assoc (p ++ 39 ∷ l) (39 ∷ []) rest, append-assoc p (39 ∷ l) (39 ∷ rest))
 
--- letters and a closing quote, behind p and the first quote c
+-- letters and a closing quote, after p and the first quote c
 quoted-sound : (r : Rules) (p : List ℕ) (c : ℕ) (s out rest : List ℕ) → (eqb c 39 && r .quotes) ≡ true → ((l : List ℕ) → Letters l → Quoted (p ++ 39 ∷ l ++ 39 ∷ []))
     → quoted p s ≡ found out rest → SpellingBy r out × (p ++ c ∷ s ≡ out ++ rest)
 unfolding quoted quoted-on all
@@ -250,7 +250,7 @@ spelling-sound r (c ∷ s) l rest h = go (letter c) (eqb c 37 && r .percent) (eq
 
 -- FACTORS
 
--- more zeros behind a plain factor
+-- more zeros after a plain factor
 plain-zeros : (x z : List ℕ) (k : ℕ) → Plain x k → all (λ d. eqb d 48) z ≡ true → Plain (x ++ z) (k + length z)
 unfolding all
 plain-zeros x [] k p a = let e : k + 0 ≡ k = omega arith in rw (e, append-nil x) p
@@ -268,7 +268,7 @@ plain-sound (c ∷ s) e =
     let k : suc (length s) - 1 ≡ 0 + length s = omega arith in
     rw (k, b) (plain-zeros (49 ∷ []) s 0 Plain.one (and-right (eqb c 49) (all (λ d. eqb d 48) s) e))
 
--- the digits ds are the factor, and nothing more is found behind them
+-- the digits ds are the factor, and nothing more is found after them
 plain-factor-sound : (r : Rules) (ds s : List ℕ) (f : Factor) (rest : List ℕ) → plain-factor r ds s ≡ found f rest → Begins (Behind ds (FactorBy r)) s f rest
 unfolding plain-factor
 plain-factor-sound r ds s f rest h = go (plain-digits ds && r .plain) refl h
@@ -293,7 +293,7 @@ wrapped-sound r Q make (c ∷ s) f rest h = go (eqb c 40 && r .wrapped) refl h
         (λ x n i. make (40 ∷ x ++ 41 ∷ []) n (WrappedBy.bracketed (and-right (eqb c 40) (r .wrapped) e) i)) (λ n t q. integer-sound s n t q) h)
     go false e h = mapped-sound ten-to Integer Q (integer (c ∷ s)) (c ∷ s) f rest (λ x n i. make x n (WrappedBy.bare i)) (λ n q. integer-sound (c ∷ s) n rest q) h
 
--- two stars behind the digits 10; c is the first star
+-- two stars after the digits 10; c is the first star
 starred-factor-sound : (r : Rules) (c : ℕ) (s : List ℕ) (f : Factor) (rest : List ℕ) → eqb c 42 ≡ true → starred-factor r s ≡ found f rest
     → Begins (Behind (49 ∷ 48 ∷ []) (FactorBy r)) (c ∷ s) f rest
 unfolding starred-factor
@@ -307,7 +307,7 @@ starred-factor-sound r c (d ∷ s) f rest p h = go (eqb d 42) refl h
         (wrapped-sound r (Behind (49 ∷ 48 ∷ 42 ∷ 42 ∷ []) (FactorBy r)) (λ e n w. FactorBy.stars w) s f rest h))
     go false q h = absurd (none-found h)
 
--- what is found behind the digits 10
+-- what is found after the digits 10
 ten-factor-sound : (r : Rules) (s : List ℕ) (f : Factor) (rest : List ℕ) → ten-factor r (49 ∷ 48 ∷ []) s ≡ found f rest → Begins (Behind (49 ∷ 48 ∷ []) (FactorBy r)) s f rest
 unfolding ten-factor
 ten-factor-sound r [] f rest h = plain-factor-sound r (49 ∷ 48 ∷ []) [] f rest h

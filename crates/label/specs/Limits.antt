@@ -39,7 +39,7 @@ largest-k = 99
 
 -- NUMBERS
 
--- the number that digits write, behind the number n
+-- the number that digits write, after the number n
 unfoldable pub number-from : ℕ → List ℕ → ℕ
 number-from n [] = n
 number-from n (c ∷ s) = number-from (n * 10 + (c - digit-zero)) s
@@ -116,7 +116,7 @@ k-of (zeros k) = tens true false k
 
 -- BRACKETS
 
--- how many brackets are open behind a byte
+-- how many brackets are open after a byte
 abbrev pub opened : ℕ → ℕ → ℕ
 opened d c = pick (eqb c open-bracket) (suc d) (pick (eqb c close-bracket) (pred d) d)
 

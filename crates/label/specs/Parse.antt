@@ -67,7 +67,7 @@ bracketed-on n (c ∷ s) =
     (pick (eqb c point) (closed (decimal n) (digits s))
     (pick (eqb c slash) (closed (fraction n) (unsigned s)) none))
 
--- a power in brackets, from behind the opening one
+-- a power in brackets, from after the opening one
 unfoldable pub bracketed : List ℕ → Found Written
 bracketed s = then (integer s) bracketed-on
 
@@ -78,7 +78,7 @@ power (c ∷ s) = pick (eqb c open-bracket) (bracketed s) (mapped whole (integer
 abbrev pub sign : ℕ → Bool
 sign c = eqb c plus || eqb c minus
 
--- two stars and a power, or no power, behind the first star of the text w
+-- two stars and a power, or no power, after the first star of the text w
 unfoldable pub starred : List ℕ → List ℕ → Found Written
 starred w [] = found unwritten w
 starred w (c ∷ s) = pick (eqb c star) (power s) (found unwritten w)
@@ -95,7 +95,7 @@ exponent r (c ∷ s) =
 
 -- SPELLINGS AND UNITS
 
--- letters l and a closing quote, behind the prefix name p and the first quote
+-- letters l and a closing quote, after the prefix name p and the first quote
 unfoldable pub quoted-on : List ℕ → List ℕ → List ℕ → Found (List ℕ)
 quoted-on p [] s = none
 quoted-on p (c ∷ l) s = byte quote (p ++ quote ∷ c ∷ l ++ quote ∷ []) s
@@ -135,7 +135,7 @@ unfoldable pub spaced : Rules → List ℕ → Joint
 spaced r [] = stop
 spaced r (c ∷ s) = pick (eqb c space && r .space) (times (padded r s)) stop
 
--- s is the text, and the last argument is s behind its spaces
+-- s is the text, and the last argument is s after its spaces
 unfoldable pub joint-at : Rules → List ℕ → List ℕ → Joint
 joint-at r s [] = stop
 joint-at r s (c ∷ u) =
@@ -212,7 +212,7 @@ unfoldable pub wrapped : Rules → List ℕ → Found Factor
 wrapped r [] = none
 wrapped r (c ∷ s) = pick (eqb c open-bracket && r .wrapped) (closed ten-to (integer s)) (mapped ten-to (integer (c ∷ s)))
 
--- behind the first of two stars
+-- after the first of two stars
 unfoldable pub starred-factor : Rules → List ℕ → Found Factor
 starred-factor r [] = none
 starred-factor r (c ∷ s) = pick (eqb c star) (wrapped r s) none

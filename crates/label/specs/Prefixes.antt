@@ -53,7 +53,7 @@ unfoldable pub placed : ℕ → List ℕ → List Prefix → Option ℕ
 placed i l [] = none
 placed i l (p ∷ ps) = pick (same l (p .name)) (some i) (placed (suc i) l ps)
 
--- a prefix is told by its place in the table, counted from 0
+-- a prefix is identified by its place in the table, counted from 0
 unfoldable pub prefix-named : List ℕ → Option ℕ
 prefix-named l = placed 0 l prefixes
 

@@ -187,7 +187,7 @@ units =
     ∷ bare ("%" known only-cds ∷ []) (ten-to (neg 2) [])
     ∷ []
 
--- a unit is told by its row, counted from 0
+-- a unit is identified by its row, counted from 0
 abbrev pub unit-at : ℕ → KnownUnit
 unit-at u = getD units u (bare [] (ten-to (pos 0) []))
 

@@ -1,4 +1,4 @@
--- Numbers written one behind the other: what is written, and what is still to come, are the whole.
+-- Numbers written one after the other: what is written, and what is still to come, are the whole.
 use Prim.Native.Nat.{ℕ, zero, suc, _+_, _*_, _-_, _<_, _≤_, _/_, _%_, _^_}
 use native.Mathlib.Omega.{arith}
 use native.Mathlib.Numerals.{add-one}

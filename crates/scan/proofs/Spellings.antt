@@ -59,7 +59,7 @@ module _ {s : List ℕ} {a q : ℕ} (w : QuoteAt s a q) {e : ℕ} (l : Run lette
     unfolding byte
     quoted-open h f = unspelled (omega (arith, w .forward, w .within)) (quoted-then ∙ rw (here s e h, ne-eqb _ _ f))
 
-    -- the bytes from the start up to behind the closing quote
+    -- the bytes from the start up to after the closing quote
     quoted-bytes : e < length s → getD s e 0 ≡ quote → between s a q ++ quote ∷ between s (q + 1) e ++ quote ∷ [] ≡ between s a (e + 1)
     quoted-bytes h f =
         rw (

@@ -1,4 +1,4 @@
--- What is found, told by a flag.
+-- What is found, where a flag says so.
 use Prim.Native.Nat.{ℕ}
 use mathlib.Core.Bool.{Bool, true, false}
 use mathlib.Core.List.{List}

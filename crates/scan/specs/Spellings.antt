@@ -24,7 +24,7 @@ pub record Told (x : Found (List ℕ)) (s : List ℕ) (a : ℕ) (o : Spelling) :
   pub back : o .ok ≡ false → o .end ≡ a
   pub within : o .end ≤ length s
 
--- letters and a closing quote, behind the quote at q; the spelling starts at a
+-- letters and a closing quote, after the quote at q; the spelling starts at a
 abbrev pub Quoted : List ℕ → ℕ → ℕ → Spelling → Type 0
 Quoted s a q o = Told (quoted (between s a q) (drop (q + 1) s)) s a o
 

@@ -49,9 +49,9 @@ named-are : (l : List ℕ) → prefix-named l ≡ pick (same l deca) (some 0) (p
 unfolding prefix-named placed singles deca columns-compute
 named-are l = refl
 
--- THE LAW: a spelling has a cut behind two letters, where they are a prefix, and one behind one letter
+-- THE LAW: a spelling has a cut after two letters, where they are a prefix, and one after one letter
 
--- the cut behind a prefix, where letters are left
+-- the cut after a prefix, where letters are left
 unfoldable pub cut-list : Option ℕ → List ℕ → List Cut
 cut-list none r = []
 cut-list (some i) r = record { prefix = i; rest = r } ∷ []
@@ -142,7 +142,7 @@ unfolding prefix-cut deca same
 one-cuts c d r =
     single-cuts 1 c (d ∷ r) singles singles-pass ∙ rw (named-are (c ∷ []), and-false (eqb c 100)) (cut-left (placed 1 (c ∷ []) singles) (d ∷ r))
 
--- Every cut of a spelling is one behind two letters or one behind one letter, in this order.
+-- Every cut of a spelling is one after two letters or one after one letter, in this order.
 pub two-then-one : (l : List ℕ) → cuts l ≡ cut-list (prefix-cut 2 l) (drop 2 l) ++ cut-list (prefix-cut 1 l) (drop 1 l)
 unfolding prefix-cut cut-list cut-with singles deca columns-compute
 two-then-one [] = refl

@@ -76,7 +76,7 @@ long-other l t h k = go (same l t) refl
     go true e = absurd (omega (arith, short, ap length (same-is l t e)))
     go false e = refl
 
--- bytes of one length behind two numbers make one number exactly if the numbers and the bytes are the same
+-- bytes of one length after two numbers make one number exactly if the numbers and the bytes are the same
 same-key : (a b : ℕ) (s t : List ℕ) → Bytes s → Bytes t → length s ≡ length t → key-from a s ≡ key-from b t → (a ≡ b) × (s ≡ t)
 unfolding key-from
 same-key a b [] [] u v h e = (e, refl)

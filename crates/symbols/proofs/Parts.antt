@@ -19,7 +19,7 @@ use Rattle.label.proofs.Basics.{drop-take}
 pub here : (s : List ℕ) (i : ℕ) → i < length s → drop i s ≡ getD s i 0 ∷ drop (i + 1) s
 here s i h = rw (add-one i) (drop-cons s i 0 h)
 
--- at the end of the text or behind it, nothing
+-- at the end of the text or after it, nothing
 pub beyond : (s : List ℕ) (i : ℕ) → length s ≤ i → drop i s ≡ []
 beyond s i h = drop-of-length-le s h
 
@@ -63,7 +63,7 @@ between-one s a h = rw (between-cons s a (a + 1) (omega arith) (omega arith), be
 pub between-more : (s : List ℕ) (a e : ℕ) → a ≤ e → e < length s → between s a (e + 1) ≡ between s a e ++ (getD s e 0 ∷ [])
 between-more s a e h g = rw (← between-join s a e (e + 1) h (omega arith), between-one s e g)
 
--- the first k bytes of a part, and those behind them
+-- the first k bytes of a part, and those after them
 pub take-between : (s : List ℕ) (a e k : ℕ) → a + k ≤ e → take k (between s a e) ≡ between s a (a + k)
 take-between s a e k h =
     let x : a + k - a ≡ k = omega arith in

@@ -42,7 +42,7 @@ placed-at r h =
 pub wider : {a b y z : ℕ} {x : Coded} → Bounded b y x → a ≤ b → y ≤ z → Bounded a z x
 wider w h g = record { row = w .row; from = λ e. omega (arith, w .from e); forward = w .forward; upto = omega (arith, w .upto); none = w .none }
 
--- what a spelling stands for whose whole is unknown: prefixes p, q and units u, v behind two letters and behind one
+-- what a spelling stands for whose whole is unknown: prefixes p, q and units u, v after two letters and after one
 unfoldable pub chosen : List ℕ → Option ℕ → Option ℕ → Option ℕ → Option ℕ → Symbol
 chosen l p (some u) q v = known p u
 chosen l p none q (some v) = known q v

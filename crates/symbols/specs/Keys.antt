@@ -8,7 +8,7 @@ use lib.Dec.{eqb}
 abbrev pub most-letters : ℕ
 most-letters = 8
 
--- the bytes s behind the number k, in base 256
+-- the bytes s after the number k, in base 256
 unfoldable pub key-from : ℕ → List ℕ → ℕ
 key-from k [] = k
 key-from k (c ∷ s) = key-from (k * 256 + c) s

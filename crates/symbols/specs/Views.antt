@@ -53,21 +53,21 @@ pub record LettersAt (s : List ℕ) (start end first last : ℕ) : Type 0 where
 
 -- CUTS
 
--- a prefix, where letters are left behind it
+-- a prefix, where letters are left after it
 abbrev pub with-rest : Option ℕ → List ℕ → Option ℕ
 with-rest p [] = none
 with-rest p (c ∷ l) = p
 
--- the prefix that the first k letters of l are, where letters are left behind it
+-- the prefix that the first k letters of l are, where letters are left after it
 unfoldable pub prefix-cut : ℕ → List ℕ → Option ℕ
 prefix-cut k l = with-rest (prefix-named (take k l)) (drop k l)
 
--- a unit, where it stands behind a prefix
+-- a unit, where it stands after a prefix
 abbrev pub behind : Option ℕ → Option ℕ → Option ℕ
 behind none u = none
 behind (some i) u = u
 
--- the unit that notation n knows by the letters of l behind a prefix of k letters
+-- the unit that notation n knows by the letters of l after a prefix of k letters
 unfoldable pub unit-cut : ℕ → ℕ → List ℕ → Option ℕ
 unit-cut n k l = behind (prefix-cut k l) (unit-named n (drop k l))
 

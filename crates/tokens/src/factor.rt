@@ -105,7 +105,7 @@ pub fn wrapped(r: Rules, s: &[u8], at: usize) -> FactorAt
     tens(integer(s, at))
 }
 
-// From behind the first of two stars.
+// From after the first of two stars.
 pub fn starred_factor(r: Rules, s: &[u8], at: usize) -> FactorAt
     requires { ⌜ at ≤ length (now s) ⌝ }
     ensures { λ o. ⌜ ReadsFactor (starred-factor r (drop at (now (s .entry)))) (now (s .entry)) at o ⌝ }

@@ -37,7 +37,7 @@ pub fn closes(s: &[u8], at: usize) -> bool
     byte_at(s, at) == b')'
 }
 
-// The power that digits end, where the closing bracket stands behind them.
+// The power that digits end, where the closing bracket stands after them.
 pub fn closed_power(s: &[u8], d: DigitsAt, power: WrittenPower) -> PowerAt
     requires { ⌜ Inside (now s) (d .digits) ⌝ }
     requires { ⌜ PowerInside (now s) power ⌝ }
@@ -90,7 +90,7 @@ pub fn bracketed_on(s: &[u8], n: SignedDigits, at: usize) -> PowerAt
     }
 }
 
-// A power in brackets, from behind the opening one.
+// A power in brackets, from after the opening one.
 pub fn bracketed(s: &[u8], at: usize) -> PowerAt
     requires { ⌜ at ≤ length (now s) ⌝ }
     ensures { λ o. ⌜ ReadsPower (bracketed (drop at (now (s .entry)))) (now (s .entry)) at o ⌝ }

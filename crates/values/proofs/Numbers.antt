@@ -25,7 +25,7 @@ between-cons s a e h l =
 pub run-length : (s : List ℕ) (d : Digits) → Inside s d → length (digits-in s d) ≡ d .end - d .start
 run-length s d h = length-take-le (d .end - d .start) (drop (d .start) s) (rw (length-drop (d .start) s) (omega (arith, h .within)))
 
--- digits behind digits write on from the number of the first
+-- digits after digits write on from the number of the first
 pub from-append : (n : ℕ) (xs ys : List ℕ) → number-from n (xs ++ ys) ≡ number-from (number-from n xs) ys
 unfolding number-from
 from-append n [] ys = refl
@@ -35,7 +35,7 @@ pub number-append : (xs ys : List ℕ) → number (xs ++ ys) ≡ number-from (nu
 unfolding number
 number-append xs ys = from-append 0 xs ys
 
--- value is the number that the digits from start up to i write behind n, and 23 more than it is at most tenfold for each
+-- value is the number that the digits from start up to i write after n, and 23 more than it is at most tenfold for each
 pub record Passed (s : List ℕ) (n start end i value : ℕ) : Type 0 where
   pub after : start ≤ i
   pub before : i ≤ end

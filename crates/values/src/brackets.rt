@@ -3,7 +3,7 @@ ghost use mathlib.Core.Path.{_≡_};
 ghost use Prim.Native.Nat.{_<_, max};
 ghost use Rattle.label.specs.Limits.{opened, deepest};
 
-// How many brackets are open behind the byte `c`, where `depth` were open before it.
+// How many brackets are open after the byte `c`, where `depth` were open before it.
 fn opened(depth: usize, c: u8) -> usize
     requires { ⌜ depth < 18446744073709551615 ⌝ }
     ensures { λ r. ⌜ r ≡ opened depth c ⌝ }

@@ -41,7 +41,7 @@ fn digit_value(c: u8) -> u32
     (c - b'0') as u32
 }
 
-// The number that a short run of digits writes behind the number `n`. specs/Bounds.antt says why it
+// The number that a short run of digits writes after the number `n`. specs/Bounds.antt says why it
 // has its bound.
 pub fn number_from(s: &[u8], n: u32, d: Digits) -> u32
     requires { ⌜ Inside (now s) d ⌝ }

@@ -67,7 +67,7 @@ fn whole_ratio(s: &[u8], n: SignedDigits) -> Quotient
     }
 }
 
-// The ratio that a decimal is: its digits as one number, over ten to the count of those behind the point.
+// The ratio that a decimal is: its digits as one number, over ten to the count of those after the point.
 fn decimal_ratio(s: &[u8], n: SignedDigits, d: Digits) -> Quotient
     requires { ⌜ Inside (now s) (n .digits) ⌝ }
     requires { ⌜ Inside (now s) d ⌝ }

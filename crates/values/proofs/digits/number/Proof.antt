@@ -1,4 +1,4 @@
--- `values::digits::number` meets its contract: a number is digits behind 0.
+-- `values::digits::number` meets its contract: a number is digits after 0.
 use borrow.Author.Needs.{needs}
 use Rattle.label.specs.Limits.{number}
 use Rattle.values.proofs.digits.number.Statement.{statement}

@@ -1,4 +1,4 @@
--- `values::ratios::decimal_ratio` meets its contract: its digits behind the point write on from the number before it.
+-- `values::ratios::decimal_ratio` meets its contract: its digits after the point write on from the number before it.
 use Prim.Native.Nat.{ℕ, _^_}
 use borrow.Author.Needs.{needs}
 use borrow.Author.Tests.{not-true, not-false}

@@ -14,7 +14,7 @@ use Rattle.label.specs.Bytes.{within, admitted, all}
 use Rattle.label.specs.Notations.{Notations, member, everywhere, notation, value-among}
 use Rattle.label.specs.Rules.{fits-rules, ogip-rules, cds-rules, vounits-rules, ruled, rules-of}
 use Rattle.label.proofs.Basics.{false-true}
-use Rattle.symbols.proofs.Parts.{here, beyond}
+use Rattle.label.proofs.Between.{here, beyond}
 
 -- NUMBERS
 

@@ -14,7 +14,7 @@ use Rattle.label.specs.Reading.{term}
 use Rattle.label.specs.Reading as spec
 use Rattle.label.specs.Symbols.{Symbol as Meant, symbol, known, unknown}
 use Rattle.label.specs.Ranges.{between}
-use Rattle.symbols.proofs.Parts.{length-between}
+use Rattle.label.proofs.Between.{length-between}
 use Rattle.symbols.specs.declared.Symbol.{Symbol}
 use Rattle.symbols.specs.Views.{place, symbol-in, Bounded, LettersAt}
 use Rattle.descent.specs.Terms.{Lent, count, term-at, terms, placed-in, InLabel, AllIn}

@@ -14,7 +14,7 @@ use Rattle.label.specs.Choice.{pick}
 use Rattle.label.specs.Parse.{stop, times, padded, spaced, joint-at, joint, leading-at, leading}
 use Rattle.label.proofs.Basics.{false-true}
 use Rattle.scan.specs.Runs.{Run, is-space}
-use Rattle.symbols.proofs.Parts.{here, beyond}
+use Rattle.label.proofs.Between.{here, beyond}
 use Rattle.tokens.proofs.Readers.{by-byte, byte-tested, byte-and}
 use Rattle.descent.specs.declared.joint.Joint.{Joint as Joined}
 use Rattle.descent.specs.Joints.{separates, Pads, Joins, Spaces, Leads, slashed, Slashes}

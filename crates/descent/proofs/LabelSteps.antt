@@ -18,7 +18,7 @@ use Rattle.label.specs.Ranges.{factor-in, FactorInside}
 use Rattle.label.proofs.Basics.{false-true}
 use Rattle.label.proofs.Complete.{rank-most}
 use Rattle.scan.specs.Runs.{Run, is-space}
-use Rattle.symbols.proofs.Parts.{here, beyond}
+use Rattle.label.proofs.Between.{here, beyond}
 use Rattle.tokens.specs.declared.factor.FactorAt.{FactorAt}
 use Rattle.tokens.specs.Answers.{ReadsFactor}
 use Rattle.tokens.proofs.Readers.{by-byte, byte-found, byte-is}

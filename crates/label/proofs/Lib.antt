@@ -5,6 +5,7 @@ pub mod Listing
 pub mod Tables
 pub mod Sizes
 pub mod Basics
+pub mod Between
 pub mod General
 pub mod Joints
 pub mod LexComplete

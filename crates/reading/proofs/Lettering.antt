@@ -13,7 +13,7 @@ use Rattle.label.specs.Reading.{Term}
 use Rattle.label.specs.Letters.{name-of, letters-from, letters-of}
 use Rattle.label.proofs.Basics.{run-past}
 use Rattle.label.proofs.Lettering.{Spelt, TermSpelt, AllSpelt, before-plain, before-quoted}
-use Rattle.symbols.proofs.Parts.{length-between}
+use Rattle.label.proofs.Between.{length-between}
 use Rattle.symbols.specs.Views.{place, LettersAt}
 use Rattle.descent.specs.Terms.{Lent}
 use Rattle.content.specs.Views.{by-code, symbol-at, term-in, terms-in}

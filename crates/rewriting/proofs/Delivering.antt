@@ -18,7 +18,7 @@ use Rattle.label.specs.Notations.{member, notation}
 use Rattle.label.specs.Ranges.{between}
 use Rattle.label.specs.Reading.{Reading, reading}
 use Rattle.label.specs.Writing.{Writable, Rewriting, refuse, unless, sized, rewriting, label-text, written-by, written, written-reading, writable, style-of}
-use Rattle.symbols.proofs.Parts.{length-between}
+use Rattle.label.proofs.Between.{length-between}
 use Rattle.descent.specs.Terms.{Lent, count}
 use Rattle.content.specs.Views.{terms-in}
 use Rattle.content.proofs.Naming.{all-in-at}

@@ -20,7 +20,7 @@ use Rattle.label.specs.Reading.{Term, exponent}
 use Rattle.label.specs.Writing.{Style, Writable, prefix-letters, name-in, factor-text, symbol-text, exponent-text, both-texts, unit-text, more-text, label-text, own-letters, writable}
 use Rattle.symbols.specs.declared.Symbol.{Symbol}
 use Rattle.symbols.specs.Views.{place, symbol-in}
-use Rattle.symbols.proofs.Parts.{drop-between}
+use Rattle.label.proofs.Between.{drop-between}
 use Rattle.descent.specs.Terms.{Lent, count}
 use Rattle.content.specs.Views.{by-code, symbol-at, term-in, terms-in}
 use Rattle.rewriting.specs.declared.whole.Term.{Term as Coded}

@@ -10,7 +10,7 @@ use borrow.Author.Tests.{eq-eqb, ne-eqb}
 use Rattle.label.specs.Bytes.{same}
 use Rattle.label.specs.Ranges.{between}
 use Rattle.label.proofs.Basics.{same-is}
-use Rattle.symbols.proofs.Parts.{between-none, between-cons, length-between}
+use Rattle.label.proofs.Between.{between-none, between-cons, length-between}
 use Rattle.rewriting.specs.Letters.{letters-of}
 
 -- A KEY'S LETTERS

@@ -11,7 +11,7 @@ use lib.Seq.{take-suc-set}
 use Rattle.label.specs.Choice.{pick}
 use Rattle.label.specs.Ranges.{between}
 use Rattle.label.specs.Writing.{both-texts}
-use Rattle.symbols.proofs.Parts.{between-none, between-cons, between-join}
+use Rattle.label.proofs.Between.{between-none, between-cons, between-join}
 use Rattle.rewriting.specs.Texts.{room, too-long, formless, Holds, Writes}
 
 -- a part and the byte after it

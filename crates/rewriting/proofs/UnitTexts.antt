@@ -19,7 +19,7 @@ use Rattle.label.specs.Writing.{Style, prefix-letters, same-prefix, same-symbol
 use Rattle.symbols.specs.declared.Symbol.{Symbol}
 use Rattle.symbols.specs.Columns.{name-keys}
 use Rattle.symbols.specs.Views.{place, symbol-in}
-use Rattle.symbols.proofs.Parts.{length-between}
+use Rattle.label.proofs.Between.{length-between}
 use Rattle.rewriting.specs.Texts.{room, formless, Holds, Writes}
 use Rattle.rewriting.specs.Letters.{letters-of}
 use Rattle.rewriting.specs.Names.{name-at, entry}

@@ -17,7 +17,7 @@ use Rattle.symbols.specs.Views.{place}
 use Rattle.scan.specs.Runs.{Run}
 use Rattle.scan.specs.Spellings.{QuoteAt, Told, Quoted, Lettered, Spelled}
 use Rattle.scan.specs.declared.spelling.Spelling.{Spelling}
-use Rattle.symbols.proofs.Parts.{here, beyond, between-none, between-join, between-cons, between-one, between-more}
+use Rattle.label.proofs.Between.{here, beyond, between-none, between-join, between-cons, between-one, between-more}
 
 -- ANSWERS
 

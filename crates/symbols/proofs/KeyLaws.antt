@@ -14,7 +14,7 @@ use Rattle.label.proofs.Basics.{T→true, both, false-true, same-is}
 use Rattle.label.specs.Bytes.{all, same}
 use Rattle.label.specs.Ranges.{between}
 use Rattle.symbols.specs.Keys.{most-letters, key-from, key-of, agrees}
-use Rattle.symbols.proofs.Parts.{Bytes, between-none, between-cons, length-between, fits-between}
+use Rattle.label.proofs.Between.{Bytes, between-none, between-cons, length-between, fits-between}
 
 -- MAKING A KEY
 

@@ -1,6 +1,5 @@
 -- The laws that the proofs of this crate cite.
 pub mod Computing
-pub mod Parts
 pub mod RowLaws
 pub mod KeyLaws
 pub mod SetLaws

@@ -11,7 +11,7 @@ use Rattle.label.specs.Bytes.{quote, run, past}
 use Rattle.label.specs.Ranges.{between}
 use Rattle.label.specs.Symbols.{unquoted}
 use Rattle.symbols.specs.Views.{FirstQuote}
-use Rattle.symbols.proofs.Parts.{between-none, between-cons, between-join}
+use Rattle.label.proofs.Between.{between-none, between-cons, between-join}
 
 -- no quote stands from start up to i
 pub record Passed (s : List ℕ) (start end i : ℕ) : Type 0 where

@@ -18,7 +18,7 @@ use Rattle.symbols.specs.declared.Cut.{Cut as Cutting}
 use Rattle.symbols.specs.declared.Symbol.{Symbol as Coded}
 use Rattle.symbols.specs.Views.{place, symbol-in, behind, prefix-cut, unit-cut, Bounded, LettersAt, CutAt, FirstPrefixed, FirstQuote}
 use Rattle.symbols.proofs.CutLaws.{cut-list, two-then-one}
-use Rattle.symbols.proofs.Parts.{between-none, between-cons, length-between, take-between, drop-between}
+use Rattle.label.proofs.Between.{between-none, between-cons, length-between, take-between, drop-between}
 
 -- PLACES
 

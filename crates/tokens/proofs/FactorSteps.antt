@@ -21,7 +21,7 @@ use Rattle.tokens.specs.declared.number.IntegerAt.{IntegerAt}
 use Rattle.tokens.specs.declared.factor.FactorAt.{FactorAt}
 use Rattle.tokens.specs.Answers.{integer-found, ReadsInteger, begins, ReadsFactor, Tens}
 use Rattle.label.proofs.Basics.{and-left}
-use Rattle.symbols.proofs.Parts.{length-between, between-cons}
+use Rattle.label.proofs.Between.{length-between, between-cons}
 use Rattle.tokens.proofs.Readers.{by-byte, mapped-by, closed-room, closed-found, closed-none}
 
 abbrev pub no-factor-at : ℕ → FactorAt

@@ -12,7 +12,7 @@ use Rattle.label.specs.Choice.{pick}
 use Rattle.label.specs.Parse.{Found, none, found, mapped, unsigned, digits, numeral, integer}
 use Rattle.label.specs.Ranges.{digits-in, Inside}
 use Rattle.scan.specs.Runs.{Run}
-use Rattle.symbols.proofs.Parts.{byte-inside, byte-outside, between-cons}
+use Rattle.label.proofs.Between.{byte-inside, byte-outside, between-cons}
 use Rattle.tokens.specs.declared.number.DigitsAt.{DigitsAt}
 use Rattle.tokens.specs.declared.number.IntegerAt.{IntegerAt}
 use Rattle.tokens.specs.Answers.{led, ReadsDigits, Signs, ReadsInteger, digits-found, integer-found}

@@ -13,7 +13,7 @@ use Rattle.label.specs.Choice.{pick}
 use Rattle.label.specs.Parse.{Found, none, found, then, mapped, byte, closed}
 use Rattle.label.proofs.Basics.{and-left, and-right}
 use Rattle.scan.specs.Founds.{found-by}
-use Rattle.symbols.proofs.Parts.{here, beyond, byte-inside, byte-outside}
+use Rattle.label.proofs.Between.{here, beyond, byte-inside, byte-outside}
 use Rattle.tokens.specs.Answers.{begins}
 
 -- BY THE BYTE AT A PLACE

@@ -2,28 +2,18 @@
 use Prim.Native.Nat.{ℕ, suc, _+_, _*_, _-_, _≤_, _<_, _^_}
 use native.Mathlib.Omega.{arith}
 use native.Mathlib.Nat.{pow-suc, pow-le-pow-right, mul-le-mul-left, mul-assoc, mul-one, sub-self}
-use native.Mathlib.Numerals.{add-one}
 use mathlib.Core.Path.{_≡_, refl}
 use mathlib.Core.List.{List, [], _∷_, _++_}
-use lib.ListN.{length, drop, getD, length-drop}
-use lib.Seq.{drop-cons, length-take-le}
+use lib.ListN.{length, getD}
 use Rattle.label.specs.Limits.{number-from, number}
 use Rattle.label.specs.Ranges.{between, digits-in, Inside}
 use Rattle.label.specs.declared.Digits.{Digits}
+use Rattle.label.proofs.Between.{length-between, between-none, between-cons}
 use Rattle.values.specs.Bounds.{number-bound}
-
--- the bytes from a place up to itself, and from a place on
-between-none : (s : List ℕ) (a : ℕ) → between s a a ≡ []
-between-none s a = rw (sub-self a)
-
-between-cons : (s : List ℕ) (a e : ℕ) → a < e → e ≤ length s → between s a e ≡ getD s a 0 ∷ between s (a + 1) e
-between-cons s a e h l =
-    let x : e - a ≡ suc (e - (a + 1)) = omega arith in
-    rw (x, add-one a, drop-cons s a 0 (omega arith))
 
 -- the length of a run
 pub run-length : (s : List ℕ) (d : Digits) → Inside s d → length (digits-in s d) ≡ d .end - d .start
-run-length s d h = length-take-le (d .end - d .start) (drop (d .start) s) (rw (length-drop (d .start) s) (omega (arith, h .within)))
+run-length s d h = length-between s (d .start) (d .end) (h .within)
 
 -- digits after digits write on from the number of the first
 pub from-append : (n : ℕ) (xs ys : List ℕ) → number-from n (xs ++ ys) ≡ number-from (number-from n xs) ys

@@ -1,7 +1,7 @@
 -- `rewriting::name::letters_in` meets its contract: no letters, more than a name has, or letters with a key.
 use native.Mathlib.Omega.{arith}
 use borrow.Author.Needs.{needs}
-use Rattle.symbols.proofs.Parts.{length-between}
+use Rattle.label.proofs.Between.{length-between}
 use Rattle.symbols.proofs.KeyLaws.{spelled-part}
 use Rattle.rewriting.proofs.NameTable.{own-empty, own-long, own-spelled}
 use Rattle.rewriting.proofs.name.letters_in.Statement.{statement}

@@ -1,6 +1,6 @@
 -- `scan::class::byte_at` meets its contract: inside the label and from its end on.
 use mathlib.Core.Path.{sym}
-use Rattle.symbols.proofs.Parts.{byte-outside}
+use Rattle.label.proofs.Between.{byte-outside}
 use borrow.Author.Needs.{needs}
 use Rattle.scan.proofs.class.byte_at.Statement.{statement}
 use Rattle.scan.proofs.class.byte_at.Tie as tie

@@ -3,7 +3,7 @@ use Prim.Native.Nat.{_-_}
 use native.Mathlib.Omega.{arith}
 use borrow.Author.Needs.{needs}
 use Rattle.label.specs.Ranges.{between}
-use Rattle.symbols.proofs.Parts.{length-between}
+use Rattle.label.proofs.Between.{length-between}
 use Rattle.symbols.proofs.KeyLaws.{spelled-part}
 use Rattle.symbols.proofs.NameLaws.{Searching, search-start, search-hit, search-miss, search-all, too-long, unit-room}
 use Rattle.symbols.proofs.NameLaws.{key-column-count, code-column-count}

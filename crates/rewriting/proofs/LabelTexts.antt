@@ -23,7 +23,7 @@ use Rattle.symbols.specs.Views.{place, symbol-in}
 use Rattle.label.proofs.Between.{drop-between}
 use Rattle.descent.specs.Terms.{Lent, count}
 use Rattle.content.specs.Views.{by-code, symbol-at, term-in, terms-in}
-use Rattle.rewriting.specs.declared.whole.Term.{Term as Coded}
+use Rattle.rewriting.specs.declared.whole.SourceTerm.{SourceTerm}
 use Rattle.rewriting.specs.declared.name.Own.{Own}
 use Rattle.rewriting.specs.declared.name.NameRange.{NameRange}
 use Rattle.rewriting.specs.Texts.{room, Holds, Writes}
@@ -165,7 +165,7 @@ module _ {s : List ℕ} {t : Lent} {x : List ℕ} {i : ℕ} (w : TermOf s t x i)
   term-is o q = record { unit = v .is s; lettered = lettered; own = λ e. rw (own-part e) o; exponent = rw q }
 
 -- what a term is written as: its unit, then its exponent
-pub term-written : (y : Style) (m : ℕ) (s : List ℕ) (r : Coded) {b c d : List ℕ} {at p q name : ℕ} {x : NameRange}
+pub term-written : (y : Style) (m : ℕ) (s : List ℕ) (r : SourceTerm) {b c d : List ℕ} {at p q name : ℕ} {x : NameRange}
     → NamesOf (r .unit .unit) x → ((l : List ℕ) → OwnOf l (r .own) → name-at name ≡ name-in m l (names-in x))
     → ((own : List ℕ) → Takes m own (r .unit) name → Writes b at (symbol-text y m own (symbol-in s (r .unit))) c p)
     → Writes c p (exponent-text y (r .exponent)) d q

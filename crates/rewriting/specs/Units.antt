@@ -16,7 +16,7 @@ use Rattle.symbols.specs.declared.Symbol.{Symbol}
 use Rattle.symbols.specs.Views.{place, symbol-in}
 use Rattle.content.specs.Views.{symbol-at}
 use Rattle.descent.specs.Terms.{Lent, count}
-use Rattle.rewriting.specs.declared.whole.Term.{Term}
+use Rattle.rewriting.specs.declared.whole.SourceTerm.{SourceTerm}
 use Rattle.rewriting.specs.Letters.{letters-of}
 use Rattle.rewriting.specs.Names.{name-at, OwnOf}
 
@@ -61,7 +61,7 @@ pub record AllTerms (s : List ℕ) (t : Lent) (x : List ℕ) : Type 0 where
   pub terms : (i : ℕ) → i < count t → TermOf s t x i
 
 -- the term r of the label s stands for t
-pub record TermIs (s : List ℕ) (t : reading.Term) (r : Term) : Type 0 where
+pub record TermIs (s : List ℕ) (t : reading.Term) (r : SourceTerm) : Type 0 where
   pub unit : symbol-in s (r .unit) ≡ t .symbol
   pub lettered : Lettered s (r .unit)
   pub own : r .unit .known ≡ true → OwnOf (own-letters (t .symbol) (bytes-at s t)) (r .own)

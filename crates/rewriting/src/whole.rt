@@ -33,7 +33,7 @@ ghost use Rattle.rewriting.specs.Names.{first-places};
 ghost use Rattle.rewriting.specs.Units.{Lettered, SymbolAt, TermOf, TermIs, AllTerms, terms-text};
 
 // A term of the source: its unit, the letters of its name, and its exponent.
-struct Term {
+struct SourceTerm {
     unit: Symbol,
     own: Own,
     exponent: Exponent,
@@ -74,7 +74,7 @@ fn term_at(
     exponents: &[i32; 32],
     names: &[u8; 128],
     i: usize,
-) -> Term
+) -> SourceTerm
     requires { ⌜ now prefixes ≡ prefix-codes ⌝ }
     requires { ⌜ TermOf (now s) (lent (now places) (now exponents)) (now names) i ⌝ }
     ensures { λ r. ⌜ TermIs (now (s .entry)) (term-in (now (s .entry)) (lent (now (places .entry)) (now (exponents .entry))) (now (names .entry)) i) r ⌝ }
@@ -85,7 +85,7 @@ fn term_at(
     let end = places[32 + i];
     let own = letters_in(s, start + (code / 65536) as usize, end);
     let exponent = Exponent(exponents[i]);
-    Term {
+    SourceTerm {
         unit,
         own,
         exponent,
@@ -102,7 +102,7 @@ fn push_term(
     firsts: &[u8],
     style: Style,
     s: &[u8],
-    term: Term,
+    term: SourceTerm,
 ) -> usize
     requires { ⌜ length (now text) ≡ room ⌝ }
     requires { ⌜ NameColumns (now keys) (now codes) × ((now prefixes ≡ prefix-codes) × (now firsts ≡ first-places)) ⌝ }

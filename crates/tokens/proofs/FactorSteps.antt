@@ -22,7 +22,7 @@ use Rattle.tokens.specs.declared.factor.FactorAt.{FactorAt}
 use Rattle.tokens.specs.Answers.{integer-found, ReadsInteger, begins, ReadsFactor, Tens}
 use Rattle.label.proofs.Basics.{and-left}
 use Rattle.label.proofs.Between.{length-between, between-cons}
-use Rattle.tokens.proofs.Readers.{by-byte, mapped-by, closed-room, closed-found, closed-none}
+use Rattle.tokens.proofs.Readers.{by-byte, closed-room, closed-found, closed-none, on-from, read-to, integer-read}
 
 abbrev pub no-factor-at : ℕ → FactorAt
 no-factor-at at = record { ok = false; next = at; factor = Absent }
@@ -82,22 +82,13 @@ module _ (s : List ℕ) (a e : ℕ) where
 pub zeros-room : (s : List ℕ) (a e : ℕ) {x y : Bool} (b : Bool) → x ≡ (y && b) → y ≡ plain-digits (between s a e) → x ≡ true → (a ≤ e) × (1 ≤ e - a)
 zeros-room s a e {x} {y} b p q t = let h = plain-nonempty s a e (sym q ∙ and-left y b (sym p ∙ t)) in (omega arith, omega arith)
 
--- the same is read from here on
-on-from : {x y : Found Factor} {s : List ℕ} {at from : ℕ} {o : FactorAt} → x ≡ y → at ≤ from → ReadsFactor y s from o → ReadsFactor x s at o
-on-from e l w = record { is = e ∙ w .is; ahead = omega (arith, w .ahead); within = w .within; inside = w .inside }
-
 nothing-read : {x : Found Factor} {s : List ℕ} {at : ℕ} → at ≤ length s → x ≡ none → ReadsFactor x s at (no-factor-at at)
-nothing-read h e = record { is = e; ahead = omega arith; within = h; inside = tt }
+nothing-read h e = read-to (omega arith) h tt e
 
 module _ (r : Rules) (s : List ℕ) (start end : ℕ) {x y : Bool} (p : x ≡ (y && r .plain)) (q : y ≡ plain-digits (between s start end)) (g : end ≤ length s) where
   pub plain₁ : x ≡ true → ReadsFactor (plain-factor r (between s start end) (drop end s)) s end (record { ok = true; next = end; factor = Zeros (end - start - 1) })
   unfolding plain-factor
-  plain₁ t = record {
-    is = rw (ap (λ (b : Bool). b && r .plain) (sym q) ∙ sym p ∙ t, length-between s start end g);
-    ahead = omega arith;
-    within = g;
-    inside = tt;
-  }
+  plain₁ t = read-to (omega arith) g tt (rw (ap (λ (b : Bool). b && r .plain) (sym q) ∙ sym p ∙ t, length-between s start end g))
 
   pub plain₂ : x ≡ false → ReadsFactor (plain-factor r (between s start end) (drop end s)) s end (no-factor-at end)
   unfolding plain-factor
@@ -108,26 +99,13 @@ module _ (r : Rules) (s : List ℕ) (start end : ℕ) {x y : Bool} (p : x ≡ (y
 module _ {s : List ℕ} (i : IntegerAt) {r t : Bool} (b : r ≡ begins close-bracket (drop (i .integer .digits .end) s)) (q : t ≡ (i .ok && r)) where
   pub closed-tens₁ : t ≡ true → Inside s (i .integer .digits)
       → ReadsFactor (closed ten-to (integer-found s i)) s (i .integer .digits .end) (record { ok = true; next = i .integer .digits .end + 1; factor = TenTo (i .integer) })
-  closed-tens₁ e j = record {
-    is = closed-found s (i .integer .digits .end) ten-to (numeral-in s (i .integer)) (i .ok) b q e;
-    ahead = omega arith;
-    within = omega (arith, closed-room s (i .integer .digits .end) ten-to (numeral-in s (i .integer)) (i .ok) b q e);
-    inside = j;
-  }
+  closed-tens₁ e j =
+      read-to (omega arith) (omega (arith, closed-room s (i .integer .digits .end) ten-to (numeral-in s (i .integer)) (i .ok) b q e)) j
+      (closed-found s (i .integer .digits .end) ten-to (numeral-in s (i .integer)) (i .ok) b q e)
 
   pub closed-tens₂ : t ≡ false → Inside s (i .integer .digits)
       → ReadsFactor (closed ten-to (integer-found s i)) s (i .integer .digits .end) (no-factor-at (i .integer .digits .end))
   closed-tens₂ e j = nothing-read (j .within) (closed-none s (i .integer .digits .end) ten-to (numeral-in s (i .integer)) (i .ok) b q e)
-
--- an integer found is a factor found
-integer-factor : {x : Found Factor} {y : Found Numeral} {s : List ℕ} {at : ℕ} {i : IntegerAt} {o : FactorAt} → x ≡ mapped ten-to y
-    → ReadsInteger y s at i → Tens i o → ReadsFactor x s at o
-integer-factor {s = s} {i = i} e w v = record {
-  is = e ∙ ap (λ (x : Found Numeral). mapped ten-to x) (w .is) ∙ mapped-by ten-to (i .ok) (numeral-in s (i .integer)) (drop (i .integer .digits .end) s) ∙ (rw (v .ok, v .next, v .is));
-  ahead = omega (arith, w .ahead, w .inside .forward, v .next);
-  within = omega (arith, w .inside .within, v .next);
-  inside = rw (v .is) (w .inside);
-}
 
 module _ (r : Rules) (s : List ℕ) (at : ℕ) where
   wrapped-is : wrapped r (drop at s)
@@ -143,7 +121,7 @@ module _ (r : Rules) (s : List ℕ) (at : ℕ) where
 
   pub wrapped₂ : {i : IntegerAt} {o : FactorAt} → (eqb (getD s at 0) open-bracket && r .wrapped) ≡ false → ReadsInteger (integer (drop at s)) s at i → Tens i o
       → ReadsFactor (wrapped r (drop at s)) s at o
-  wrapped₂ e w v = integer-factor (wrapped-is ∙ rw e) w v
+  wrapped₂ e w v = integer-read TenTo ten-to refl (λ j. j) (wrapped-is ∙ rw e) w v
 
   starred-is : starred-factor r (drop at s) ≡ pick (eqb (getD s at 0) star) (wrapped r (drop (at + 1) s)) none
   unfolding starred-factor
@@ -170,7 +148,7 @@ module _ (r : Rules) (s ds : List ℕ) (at : ℕ) where
 
   pub ten₁ : {i : IntegerAt} {o : FactorAt} → (sign (getD s at 0) && r .signed) ≡ true → ReadsInteger (integer (drop at s)) s at i → Tens i o
       → ReadsFactor (ten-factor r ds (drop at s)) s at o
-  ten₁ e w v = integer-factor (ten-is ∙ rw e) w v
+  ten₁ e w v = integer-read TenTo ten-to refl (λ j. j) (ten-is ∙ rw e) w v
 
   module _ (a : (sign (getD s at 0) && r .signed) ≡ false) where
     pub ten₂ : {o : FactorAt} → (eqb (getD s at 0) caret && r .caret) ≡ true → ReadsFactor (wrapped r (drop (at + 1) s)) s (at + 1) o

@@ -3,7 +3,7 @@ use Prim.Native.Nat.{ℕ, _≤_, _<_, _+_}
 use native.Mathlib.Omega.{arith}
 use mathlib.Core.Path.{_≡_, refl, sym, ap, _∙_}
 use mathlib.Core.Bool.{Bool, true, false, _&&_, _||_, not}
-use mathlib.Core.List.{List, [], _∷_}
+use mathlib.Core.List.{List}
 use lib.Dec.{eqb}
 use lib.ListN.{length, drop, getD}
 use borrow.Author.Tests.{eq-eqb, ne-eqb, not-true, not-false}
@@ -13,15 +13,15 @@ use Rattle.label.specs.declared.WrittenPower.{WrittenPower}
 use Rattle.label.specs.declared.WrittenPower.the-variants.{Unwritten, Whole, Decimal, Fraction}
 use Rattle.label.specs.Bytes.{caret, close-bracket, open-bracket, point, slash, star, digit}
 use Rattle.label.specs.Choice.{pick}
-use Rattle.label.specs.Lexical.{Numeral, Written, unwritten, whole, decimal, fraction}
-use Rattle.label.specs.Parse.{Found, none, found, then, mapped, closed, unsigned, digits, sign, integer, bracketed-on, bracketed, power, starred, exponent}
+use Rattle.label.specs.Lexical.{Written, unwritten, whole, decimal, fraction}
+use Rattle.label.specs.Parse.{Found, none, found, mapped, byte, closed, unsigned, digits, sign, integer, bracketed-on, bracketed, power, starred, exponent}
 use Rattle.label.specs.Ranges.{digits-in, numeral-in, written-in, Inside, PowerInside}
 use Rattle.scan.specs.Founds.{found-by}
 use Rattle.tokens.specs.declared.number.DigitsAt.{DigitsAt}
 use Rattle.tokens.specs.declared.number.IntegerAt.{IntegerAt}
 use Rattle.tokens.specs.declared.power.PowerAt.{PowerAt}
 use Rattle.tokens.specs.Answers.{digits-found, ReadsDigits, ReadsInteger, ReadsPower, begins, Powers}
-use Rattle.tokens.proofs.Readers.{by-byte, mapped-by, closed-room, closed-found, closed-none}
+use Rattle.tokens.proofs.Readers.{by-byte, then-by, closed-room, closed-found, closed-none, on-from, read-to, integer-read}
 
 abbrev pub no-power : ℕ → PowerAt
 no-power at = record { ok = false; next = at; power = Unwritten }
@@ -30,25 +30,11 @@ no-power at = record { ok = false; next = at; power = Unwritten }
 abbrev pub unwritten-at : ℕ → PowerAt
 unwritten-at at = record { ok = true; next = at; power = Unwritten }
 
--- the same is read from here on
-on-from : {x y : Found Written} {s : List ℕ} {at from : ℕ} {o : PowerAt} → x ≡ y → at ≤ from → ReadsPower y s from o → ReadsPower x s at o
-on-from e l w = record { is = e ∙ w .is; ahead = omega (arith, w .ahead); within = w .within; inside = w .inside }
-
 nothing-read : {x : Found Written} {s : List ℕ} {at : ℕ} → at ≤ length s → x ≡ none → ReadsPower x s at (no-power at)
-nothing-read h e = record { is = e; ahead = omega arith; within = h; inside = tt }
+nothing-read h e = read-to (omega arith) h tt e
 
 unwritten-read : {x : Found Written} {s : List ℕ} {at : ℕ} → at ≤ length s → x ≡ found unwritten (drop at s) → ReadsPower x s at (unwritten-at at)
-unwritten-read h e = record { is = e; ahead = omega arith; within = h; inside = tt }
-
--- an integer found is a power found
-integer-power : {x : Found Written} {y : Found Numeral} {s : List ℕ} {at : ℕ} {i : IntegerAt} {o : PowerAt} → x ≡ mapped whole y
-    → ReadsInteger y s at i → Powers i o → ReadsPower x s at o
-integer-power {s = s} {i = i} e w v = record {
-  is = e ∙ ap (λ (x : Found Numeral). mapped whole x) (w .is) ∙ mapped-by whole (i .ok) (numeral-in s (i .integer)) (drop (i .integer .digits .end) s) ∙ (rw (v .ok, v .next, v .is));
-  ahead = omega (arith, w .ahead, w .inside .forward, v .next);
-  within = omega (arith, w .inside .within, v .next);
-  inside = rw (v .is) (w .inside);
-}
+unwritten-read h e = read-to (omega arith) h tt e
 
 -- POWERS IN BRACKETS
 
@@ -56,12 +42,9 @@ integer-power {s = s} {i = i} e w v = record {
 module _ {s : List ℕ} (d : DigitsAt) {r t : Bool} (b : r ≡ begins close-bracket (drop (d .digits .end) s)) (q : t ≡ (d .ok && r)) (p : WrittenPower) where
   pub closed₁ : t ≡ true → PowerInside s p
       → ReadsPower (closed (λ (ds : List ℕ). written-in s p) (digits-found s d)) s (d .digits .end) (record { ok = true; next = d .digits .end + 1; power = p })
-  closed₁ e j = record {
-    is = closed-found s (d .digits .end) (λ (ds : List ℕ). written-in s p) (digits-in s (d .digits)) (d .ok) b q e;
-    ahead = omega arith;
-    within = omega (arith, closed-room s (d .digits .end) (λ (ds : List ℕ). written-in s p) (digits-in s (d .digits)) (d .ok) b q e);
-    inside = j;
-  }
+  closed₁ e j =
+      read-to (omega arith) (omega (arith, closed-room s (d .digits .end) (λ (ds : List ℕ). written-in s p) (digits-in s (d .digits)) (d .ok) b q e)) j
+      (closed-found s (d .digits .end) (λ (ds : List ℕ). written-in s p) (digits-in s (d .digits)) (d .ok) b q e)
 
   pub closed₂ : t ≡ false → Inside s (d .digits)
       → ReadsPower (closed (λ (ds : List ℕ). written-in s p) (digits-found s d)) s (d .digits .end) (no-power (d .digits .end))
@@ -69,9 +52,8 @@ module _ {s : List ℕ} (d : DigitsAt) {r t : Bool} (b : r ≡ begins close-brac
 
 -- what is closed is a function of the digits that are found
 closed-same : {A B : Type 0} (f : A → B) (a : A) (ok : Bool) (t : List ℕ) → closed f (found-by ok a t) ≡ closed (λ (x : A). f a) (found-by ok a t)
-unfolding closed then
-closed-same f a true t = refl
-closed-same f a false t = refl
+unfolding closed
+closed-same f a ok t = then-by (λ x u. byte close-bracket (f x) u) ok a t ∙ sym (then-by (λ x u. byte close-bracket (f a) u) ok a t)
 
 module _ (s : List ℕ) (n : SignedDigits) (at : ℕ) where
   on-is : bracketed-on (numeral-in s n) (drop at s)
@@ -87,7 +69,7 @@ module _ (s : List ℕ) (n : SignedDigits) (at : ℕ) where
 
   pub bracketed-on₁ : at < length s → getD s at 0 ≡ close-bracket → Inside s (n .digits)
       → ReadsPower (bracketed-on (numeral-in s n) (drop at s)) s at (record { ok = true; next = at + 1; power = Whole n })
-  bracketed-on₁ h e i = record { is = on-is ∙ rw (eq-eqb _ _ e); ahead = omega arith; within = omega arith; inside = i }
+  bracketed-on₁ h e i = read-to (omega arith) (omega arith) i (on-is ∙ rw (eq-eqb _ _ e))
 
   -- after a point or a slash, digits and the closing bracket
   on-digits : (f : List ℕ → Written) {x : Found (List ℕ)} {d : DigitsAt} {o : PowerAt} (p : WrittenPower) → f (digits-in s (d .digits)) ≡ written-in s p
@@ -115,15 +97,18 @@ module _ (s : List ℕ) (n : SignedDigits) (at : ℕ) where
   bracketed-on₄ h a b c = nothing-read h (on-is ∙ rw (ne-eqb _ _ a, ne-eqb _ _ b, ne-eqb _ _ c))
 
 module _ {s : List ℕ} {at : ℕ} {i : IntegerAt} (w : ReadsInteger (integer (drop at s)) s at i) where
+  bracketed-is : bracketed (drop at s)
+      ≡ pick (i .ok) (bracketed-on (numeral-in s (i .integer)) (drop (i .integer .digits .end) s)) none
+  unfolding bracketed
+  bracketed-is = rw (w .is) (then-by bracketed-on (i .ok) (numeral-in s (i .integer)) (drop (i .integer .digits .end) s))
+
   pub bracketed₁ : at ≤ length s → not (i .ok) ≡ true → ReadsPower (bracketed (drop at s)) s at (no-power at)
-  unfolding bracketed then
-  bracketed₁ h e = nothing-read h (rw (w .is, not-true (i .ok) e))
+  bracketed₁ h e = nothing-read h (bracketed-is ∙ rw (not-true (i .ok) e))
 
   pub bracketed₂ : {o : PowerAt} → not (i .ok) ≡ false
       → ReadsPower (bracketed-on (numeral-in s (i .integer)) (drop (i .integer .digits .end) s)) s (i .integer .digits .end) o
       → ReadsPower (bracketed (drop at s)) s at o
-  unfolding bracketed then
-  bracketed₂ e v = on-from (rw (w .is, not-false (i .ok) e)) (omega (arith, w .ahead, w .inside .forward)) v
+  bracketed₂ e v = on-from (bracketed-is ∙ rw (not-false (i .ok) e)) (omega (arith, w .ahead, w .inside .forward)) v
 
 -- POWERS
 
@@ -137,7 +122,7 @@ module _ (s : List ℕ) (at : ℕ) where
 
   pub power₂ : {i : IntegerAt} {o : PowerAt} → (getD s at 0 ≡ open-bracket → ⊥) → ReadsInteger (integer (drop at s)) s at i → Powers i o
       → ReadsPower (power (drop at s)) s at o
-  power₂ e w v = integer-power (power-is ∙ rw (ne-eqb _ _ e)) w v
+  power₂ e w v = integer-read Whole whole refl (λ j. j) (power-is ∙ rw (ne-eqb _ _ e)) w v
 
   -- AFTER A STAR
 
@@ -174,7 +159,7 @@ module _ (r : Rules) (s : List ℕ) (at : ℕ) where
 
   pub after₁ : {i : IntegerAt} {o : PowerAt} → ((sign (getD s at 0) || digit (getD s at 0)) && r .direct) ≡ true → ReadsInteger (integer (drop at s)) s at i → Powers i o
       → ReadsPower (exponent r (drop at s)) s at o
-  after₁ e w v = integer-power (exponent-is ∙ rw e) w v
+  after₁ e w v = integer-read Whole whole refl (λ j. j) (exponent-is ∙ rw e) w v
 
   module _ (a : ((sign (getD s at 0) || digit (getD s at 0)) && r .direct) ≡ false) where
     pub after₂ : {o : PowerAt} → (eqb (getD s at 0) open-bracket && r .brackets) ≡ true → ReadsPower (bracketed (drop (at + 1) s)) s (at + 1) o

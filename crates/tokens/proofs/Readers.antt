@@ -1,4 +1,4 @@
--- Ways to combine readers, over what is read: by the byte at a place, one after another, mapped, and closed by a bracket.
+-- Ways to combine readers, over what is read: by the byte at a place, one after another, mapped, closed by a bracket, and as an answer.
 use Prim.Native.Nat.{ℕ, _≤_, _<_, _+_}
 use native.Mathlib.Omega.{arith}
 use native.Mathlib.Decide.{decLt}
@@ -10,11 +10,15 @@ use lib.ListN.{length, drop, getD}
 use borrow.Author.Tests.{eqb-true}
 use Rattle.label.specs.Bytes.{close-bracket}
 use Rattle.label.specs.Choice.{pick}
+use Rattle.label.specs.declared.SignedDigits.{SignedDigits}
+use Rattle.label.specs.Lexical.{Numeral}
+use Rattle.label.specs.Ranges.{numeral-in, Inside}
 use Rattle.label.specs.Parse.{Found, none, found, then, mapped, byte, closed}
 use Rattle.label.proofs.Basics.{and-left, and-right}
 use Rattle.scan.specs.Founds.{found-by}
 use Rattle.label.proofs.Between.{here, beyond, byte-inside, byte-outside}
-use Rattle.tokens.specs.Answers.{begins}
+use Rattle.tokens.specs.declared.number.IntegerAt.{IntegerAt}
+use Rattle.tokens.specs.Answers.{Answer, Reads, Wraps, ReadsInteger, begins}
 
 -- BY THE BYTE AT A PLACE
 
@@ -50,6 +54,14 @@ class-is p h e = rw (← h) e
 pub byte-class : (p : ℕ → Bool) (b : Bool) {x y : ℕ} {w t v : Bool} → x ≡ y → w ≡ p x → t ≡ (w && b) → t ≡ v → (p y && b) ≡ v
 byte-class p b h k e q = rw (← h, ← k) (sym e ∙ q)
 
+-- ONE THING, THEN ANOTHER
+
+-- what is found by the flag ok, and then f of it
+pub then-by : {A B : Type 0} (f : A → List ℕ → Found B) (ok : Bool) (a : A) (t : List ℕ) → then (found-by ok a t) f ≡ pick ok (f a t) none
+unfolding then
+then-by f true a t = refl
+then-by f false a t = refl
+
 -- MAPPED
 
 pub mapped-by : {A B : Type 0} (g : A → B) (b : Bool) (a : A) (t : List ℕ) → mapped g (found-by b a t) ≡ found-by b (g a) t
@@ -81,14 +93,41 @@ module _ (s : List ℕ) (at : ℕ) where
     pub closed-room : t ≡ true → at < length s
     closed-room e = begins-room (sym b ∙ and-right ok r (sym q ∙ e))
 
+    closed-is : closed f (found-by ok a (drop at s)) ≡ pick (ok && r) (found (f a) (drop (at + 1) s)) none
+    unfolding closed
+    closed-is = then-by (λ x u. byte close-bracket (f x) u) ok a (drop at s) ∙ go ok
+      where
+        go : (x : Bool) → pick x (byte close-bracket (f a) (drop at s)) none ≡ pick (x && r) (found (f a) (drop (at + 1) s)) none
+        go true = rw b (byte-closes (f a))
+        go false = refl
+
     pub closed-found : t ≡ true → closed f (found-by ok a (drop at s)) ≡ found (f a) (drop (at + 1) s)
-    unfolding closed then
-    closed-found e = rw (and-left ok r (sym q ∙ e)) (close-found (f a) (sym b ∙ and-right ok r (sym q ∙ e)))
+    closed-found e = closed-is ∙ rw (sym q ∙ e)
 
     pub closed-none : t ≡ false → closed f (found-by ok a (drop at s)) ≡ none
-    unfolding closed then
-    closed-none e = go ok (sym q ∙ e)
-      where
-        go : (x : Bool) → (x && r) ≡ false → closed f (found-by x a (drop at s)) ≡ none
-        go true e = byte-no-close (f a) (sym b ∙ e)
-        go false e = refl
+    closed-none e = closed-is ∙ rw (sym q ∙ e)
+
+-- ANSWERS
+
+module _ {O W A : Type 0} {v : Answer O W A} {x : Found A} {s : List ℕ} {at : ℕ} {o : O} where
+  -- the same is read from here on
+  pub on-from : {y : Found A} {from : ℕ} → x ≡ y → at ≤ from → Reads v y s from o → Reads v x s at o
+  on-from e l w = record { is = e ∙ w .is; ahead = omega (arith, w .ahead); within = w .within; inside = w .inside }
+
+  -- what is found, or nothing, up to where the answer says
+  pub read-to : at ≤ v .next o → v .next o ≤ length s → v .inside s (v .ranges o) → x ≡ found-by (v .ok o) (v .value s (v .ranges o)) (drop (v .next o) s)
+      → Reads v x s at o
+  read-to a h i e = record { is = e; ahead = a; within = h; inside = i }
+
+  -- an integer, as the case f of the ranges, which stands for the case g
+  pub integer-read : {y : Found Numeral} {i : IntegerAt} (f : SignedDigits → W) (g : Numeral → A)
+      → v .value s (f (i .integer)) ≡ g (numeral-in s (i .integer)) → (Inside s (i .integer .digits) → v .inside s (f (i .integer)))
+      → x ≡ mapped g y → ReadsInteger y s at i → Wraps v f i o → Reads v x s at o
+  integer-read {i = i} f g p j e w k = record {
+    is =
+        e ∙ ap (λ (x : Found Numeral). mapped g x) (w .is) ∙ mapped-by g (i .ok) (numeral-in s (i .integer)) (drop (i .integer .digits .end) s)
+        ∙ rw (k .ok, k .next, k .is, p);
+    ahead = omega (arith, w .ahead, w .inside .forward, k .next);
+    within = omega (arith, w .inside .within, k .next);
+    inside = rw (k .is) (j (w .inside));
+  }

@@ -10,7 +10,10 @@ use Rattle.label.specs.Choice.{pick}
 use Rattle.label.specs.Lexical.{Numeral, Written, Factor}
 use Rattle.label.specs.Parse.{Found, none, found}
 use Rattle.label.specs.Ranges.{digits-in, numeral-in, written-in, factor-in, Inside, PowerInside, FactorInside}
+use Rattle.label.specs.declared.SignedDigits.{SignedDigits}
+use Rattle.label.specs.declared.WrittenPower.{WrittenPower}
 use Rattle.label.specs.declared.WrittenPower.the-variants.{Whole}
+use Rattle.label.specs.declared.WrittenFactor.{WrittenFactor}
 use Rattle.label.specs.declared.WrittenFactor.the-variants.{TenTo}
 use Rattle.scan.specs.Founds.{found-by}
 use Rattle.tokens.specs.declared.factor.FactorAt.{FactorAt}
@@ -50,30 +53,45 @@ unfoldable pub begins : ℕ → List ℕ → Bool
 begins c [] = false
 begins c (d ∷ s) = eqb d c
 
--- POWERS
+-- POWERS AND FACTORS
 
-pub record ReadsPower (x : Found Written) (s : List ℕ) (at : ℕ) (o : PowerAt) : Type 0 where
-  pub is : x ≡ found-by (o .ok) (written-in s (o .power)) (drop (o .next) s)
-  pub ahead : at ≤ o .next
-  pub within : o .next ≤ length s
-  pub inside : PowerInside s (o .power)
+-- What an answer O of a reader tells: whether it found any, where it ends, the ranges W that it found, what they stand for in a text (a value of A),
+-- and that they are inside the text.
+pub record Answer (O W A : Type 0) : Type 1 where
+  pub ok : O → Bool
+  pub next : O → ℕ
+  pub ranges : O → W
+  pub value : List ℕ → W → A
+  pub inside : List ℕ → W → Type 0
+
+pub record Reads {O W A : Type 0} (v : Answer O W A) (x : Found A) (s : List ℕ) (at : ℕ) (o : O) : Type 0 where
+  pub is : x ≡ found-by (v .ok o) (v .value s (v .ranges o)) (drop (v .next o) s)
+  pub ahead : at ≤ v .next o
+  pub within : v .next o ≤ length s
+  pub inside : v .inside s (v .ranges o)
+
+-- an integer under a case of W
+pub record Wraps {O W A : Type 0} (v : Answer O W A) (f : SignedDigits → W) (i : IntegerAt) (o : O) : Type 0 where
+  pub ok : v .ok o ≡ i .ok
+  pub next : v .next o ≡ i .integer .digits .end
+  pub is : v .ranges o ≡ f (i .integer)
+
+abbrev pub power-answer : Answer PowerAt WrittenPower Written
+power-answer = record { ok = λ o. o .ok; next = λ o. o .next; ranges = λ o. o .power; value = written-in; inside = PowerInside }
+
+abbrev pub ReadsPower : Found Written → List ℕ → ℕ → PowerAt → Type 0
+ReadsPower = Reads power-answer
 
 -- an integer as a power
-pub record Powers (i : IntegerAt) (o : PowerAt) : Type 0 where
-  pub ok : o .ok ≡ i .ok
-  pub next : o .next ≡ i .integer .digits .end
-  pub is : o .power ≡ Whole (i .integer)
+abbrev pub Powers : IntegerAt → PowerAt → Type 0
+Powers = Wraps power-answer Whole
 
--- FACTORS
+abbrev pub factor-answer : Answer FactorAt WrittenFactor Factor
+factor-answer = record { ok = λ o. o .ok; next = λ o. o .next; ranges = λ o. o .factor; value = factor-in; inside = FactorInside }
 
-pub record ReadsFactor (x : Found Factor) (s : List ℕ) (at : ℕ) (o : FactorAt) : Type 0 where
-  pub is : x ≡ found-by (o .ok) (factor-in s (o .factor)) (drop (o .next) s)
-  pub ahead : at ≤ o .next
-  pub within : o .next ≤ length s
-  pub inside : FactorInside s (o .factor)
+abbrev pub ReadsFactor : Found Factor → List ℕ → ℕ → FactorAt → Type 0
+ReadsFactor = Reads factor-answer
 
 -- an integer as a power of ten
-pub record Tens (i : IntegerAt) (o : FactorAt) : Type 0 where
-  pub ok : o .ok ≡ i .ok
-  pub next : o .next ≡ i .integer .digits .end
-  pub is : o .factor ≡ TenTo (i .integer)
+abbrev pub Tens : IntegerAt → FactorAt → Type 0
+Tens = Wraps factor-answer TenTo

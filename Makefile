@@ -1,16 +1,17 @@
 # make: the library, the command and the line program, in build/. make run: what kg/m.s means in each notation; NOTATION=cds LABEL='km/h' for another.
-# make test: every program of tests/. make compare COUNT=100000: random cases against the second implementation, tests/independent.py.
+# make test: every program of tests/. make compare SEED=2: a million cases against the second implementation, tests/independent.py; COUNT of each kind.
 # make bench: how long reading takes and how much stack, beside other readers; see docs/PERFORMANCE.md. make clean: removes build/.
 NOTATION = fits ogip cds vou
 export LABEL = kg/m.s
-COUNT = 100000
+COUNT = 250000
+SEED = 1
 CC = gcc
 CFLAGS = -std=c11 -O2 -Wall -Wextra -Werror
 SANITIZERS = -g -fsanitize=address,undefined -fno-sanitize-recover=all
 LIBRARY = build/libthalinguze.a
 HEADERS = include/thalinguze.h $(wildcard c/*.h)
 PARTS = $(patsubst c/%.c,build/%.o,$(wildcard c/*.c))
-TESTS = $(addprefix build/tests/,limits header advice stack guard guard-plain print_labels rewrite convert)
+TESTS = $(addprefix build/tests/,limits header advice stack guard guard-plain rewrite convert)
 
 all: $(LIBRARY) build/thalinguze build/label-lines
 
@@ -25,15 +26,15 @@ test: all $(TESTS)
 	@build/tests/advice
 	@tests/read.sh
 	@tests/readme.sh
-	@tests/second.sh 5000 1 all
+	@tests/second.sh 5000 1 1
 	@tests/independent.sh
 	@tests/stack.sh
 	@tests/guard.sh
 	@tests/lines.sh
 
-compare: all build/tests/print_labels build/tests/rewrite build/tests/convert
-	@tests/second.sh $(COUNT) 1 all
-	@tests/independent.sh $(COUNT)
+compare: all build/tests/rewrite build/tests/convert
+	@tests/second.sh $(COUNT) $(SEED) 1000
+	@tests/independent.sh
 
 bench: $(LIBRARY)
 	@bench/run.sh

@@ -7,15 +7,16 @@ usage: independent.py [read]            reads lines NOTATION HEX, and prints eac
        independent.py lines             the line program: standard input to standard output
        independent.py symbols           prints the lines of vectors/symbols.tsv
        independent.py cases KIND SEED COUNT [all]
-                                        prints cases for rewrite, convert or lines: those at an edge, COUNT others, and with `all` every
-                                        unit with every prefix into every notation (rewrite), or every pair of units (convert)
-       independent.py met REWRITTEN CONVERTED LINES
-                                        prints how often each refusal number is met in three files of answers; 1 if one is never met
+                                        prints cases for read, rewrite, convert or lines: those at an edge, COUNT others, and with `all`
+                                        every unit with every prefix into every notation (rewrite), or every pair of units (convert)
+       independent.py met LEAST READ REWRITTEN CONVERTED LINES
+                                        prints how often each refusal number is met in four files of answers; status 1 if one is met
+                                        fewer than LEAST times
 
 HEX is a label's bytes in hexadecimal, `-` if there are none. SIZE is the lent buffer's length."""
 import sys
 
-from second import convert_cases, converting, line_cases, lines, reading, rewrite_cases, writing
+from second import convert_cases, converting, line_cases, lines, read_cases, reading, rewrite_cases, writing
 from second.symbols import spellings
 
 
@@ -54,28 +55,30 @@ def print_symbols():
             print(notation, data.hex(), reading.shown(notation, data))
 
 
-CASES = {'rewrite': rewrite_cases, 'convert': convert_cases, 'lines': line_cases}
+CASES = {'read': read_cases, 'rewrite': rewrite_cases, 'convert': convert_cases, 'lines': line_cases}
 
 
 def print_cases(kind, seed, count, everything=''):
     sys.stdout.buffer.write(CASES[kind].text(int(seed), int(count), everything == 'all'))
 
 
-def numbers(rewritten, converted, answered):
-    """The refusal number of every answer in three files."""
-    for name in (rewritten, converted):
+def numbers(read, rewritten, converted, answered):
+    """The refusal number of every answer in four files."""
+    for name, field in ((read, 2), (rewritten, 4), (converted, 4)):
         with open(name) as file:
-            yield from (int(line.split()[4]) for line in file)
+            yield from (int(line.split()[field]) for line in file)
     with open(answered, 'rb') as file:
         yield from (int(line.split(b'\t')[1]) for line in file.read().split(b'\n')[:-1])
 
 
-def print_met(*files):
+def print_met(least, *files):
     met = [0] * 16
     for number in numbers(*files):
         met[number] += 1
-    print('answers with each number: ' + ', '.join('%d: %d' % pair for pair in enumerate(met)))
-    return 0 if all(met) else 1
+    print('%d answers; with each number: %s' % (sum(met), ', '.join('%d: %d' % pair for pair in enumerate(met))))
+    rare = [str(number) for number, times in enumerate(met) if times < int(least)]
+    print('each number is met at least %s times' % least if not rare else 'met fewer than %s times: %s' % (least, ', '.join(rare)))
+    return 1 if rare else 0
 
 
 MODES = {'read': print_readings, 'rewrite': print_rewritings, 'convert': print_conversions, 'lines': print_lines,

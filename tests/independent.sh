@@ -1,10 +1,8 @@
 #!/bin/sh
-# Answers of the library against those of the second implementation in independent.py, which knows nothing of it: COUNT random labels that
-# are read, and the cases that second.sh leaves in build/tests/second.
+# Answers of the library against those of the second implementation in independent.py, which knows nothing of it: the cases that second.sh
+# leaves in build/tests/second.
 set -eu
-count=${1:-5000}
 out=build/tests/second
-mkdir -p "$out"
 
 # compare KIND COMMAND...: what the command prints for the cases of that kind
 compare() {
@@ -18,8 +16,6 @@ compare() {
     echo "$kind: $(wc -l <"$out/$kind.second") answers of the library are those of the second implementation"
 }
 
-{ cut -d' ' -f1,2 vectors/readings.tsv; build/tests/print_labels "$count"; } >"$out/read.cases"
-python3 tests/independent.py read <"$out/read.cases" >"$out/read.second"
 compare read build/thalinguze read --vectors
 compare rewrite build/tests/rewrite
 compare convert build/tests/convert

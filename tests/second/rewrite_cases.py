@@ -110,9 +110,11 @@ def cases(seed, count, everything):
         symbols = random.sample(symbols, min(count // 2, len(symbols)))
     found = special() + buffers(special()[::3]) + numbers() + lengths() + refused() + order() + symbols
     for _ in range(count - count // 2):
-        source = random.choice(NOTATIONS)
+        source, target = random.choice(NOTATIONS), random.choice(NOTATIONS)
         size = random.choice([ROOM] * 8 + [0, 3, 10, 20, 30, 254, 256])
-        found.append((source, label(random, source), random.choice(NOTATIONS), size))
+        # one of 25 results is about as long as a label may be
+        data = of_length(source, target, random.randint(240, 270)) if random.random() < 0.04 else label(random, source)
+        found.append((source, data, target, size))
     return found
 
 

@@ -13,7 +13,7 @@ use Rattle.label.specs.declared.Tens.{Tens}
 use Rattle.label.specs.declared.WrittenFactor.{WrittenFactor}
 use Rattle.label.specs.Bytes.{admitted, all}
 use Rattle.label.specs.Notations.{notation}
-use Rattle.label.specs.Rules.{rules-of}
+use Rattle.label.specs.Rows.{rules-of}
 use Rattle.label.specs.Lexical.{Part}
 use Rattle.label.specs.Limits.{k-of, most-bytes, most-terms, most-brackets, deepest}
 use Rattle.label.specs.Parse.{parse, parse-with, refused}
@@ -29,7 +29,7 @@ use Rattle.descent.specs.Terms.{Lent, count, broken, missing, Holds}
 use Rattle.descent.specs.Labels.{parsed-by, ReadsLabel}
 use Rattle.checks.specs.declared.check.Checked.{Checked}
 use Rattle.checks.specs.Checks.{due, units-in, checked-by, Rejects, ChecksValues, Checks}
-use Rattle.checks.proofs.Notations.{in-range}
+use Rattle.notations.proofs.Numbers.{in-range}
 
 rejects : {i : ℕ} {r : Checked} → Rejects i r → (k : Tens) (us : List Placed) → checked-by (r .ok) (r .number) k us ≡ refuse i
 rejects w k us = rw (w .refused, w .number)

@@ -1,2 +1,2 @@
 pub mod Checking
-pub mod Notations
+pub mod Admitted

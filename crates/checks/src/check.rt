@@ -1,10 +1,10 @@
 // The limits and the grammar: refusals 1 to 7, or the label's values.
 use crate::bytes::all_admitted;
-use crate::notation::is_notation;
-use crate::notation::rules;
 use descent::whole::read_label;
 use label::Tens;
 use label::WrittenFactor;
+use notations::rows::is_notation;
+use notations::rows::rules;
 use values::brackets::deepest;
 use values::factors::factor;
 ghost use mathlib.Core.Path.{_≡_};
@@ -74,7 +74,7 @@ pub fn check(n: u32, s: &[u8], places: &mut [usize; 66], exponents: &mut [i32; 3
     if !all_admitted(s) {
         return rejected(3);
     }
-    let o = read_label(rules(n), s, places, exponents);
+    let o = read_label(rules(n as u8), s, places, exponents);
     if !o.ok {
         return rejected(4);
     }

@@ -1,4 +1,3 @@
 // The refusals of a label: its notation, its bytes, its grammar and its limits.
 pub mod bytes;
 pub mod check;
-pub mod notation;

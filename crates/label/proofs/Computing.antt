@@ -1,10 +1,10 @@
 -- Names for what a claim by computation unfolds: to unfold one of these is to unfold every definition that its line names.
 use Rattle.label.specs.Bytes.{bytes, letter, digit, nonzero, admitted, all, run, past, same}
-use Rattle.label.specs.Notations.{member, notation, value-among}
+use Rattle.label.specs.Notations.{member, notation}
 use Rattle.label.specs.Prefixes.{prefixes, placed, prefix-named, prefix-name}
 use Rattle.label.specs.Units.{units, base-power, multiplicity}
 use Rattle.label.specs.Symbols.{has-name, row-named, unit-named, follows, cut-by, cuts-from, cuts, known-by, known-among, known-cuts, longer, longest, by-longest, by-cut, by-whole, by-quote, symbol}
-use Rattle.label.specs.Rules.{ruled, rules-of}
+use Rattle.label.specs.Rows.{ruled, rules-of, value-among}
 use Rattle.label.specs.Parse.{then, mapped, byte, unsigned, digits, integer, closed, bracketed-on, bracketed, power, starred, exponent, quoted-on, quoted, lettered, spelling, unit, padded, spaced, joint-at, joint, leading-at, leading, appended, chained, item-at, item-by, more-at, product-at, quotient-on, read, plain-digits, plain-factor, wrapped, starred-factor, ten-factor, ten, factor, ended, one-space, gap, factored, label-by, parse-by, parse-with, parse}
 use Rattle.label.specs.Limits.{number-from, number, ratio, exponent-in, exponent-of, k-of, deepest-from, deepest, denominator-among, denominator-of, lowest-terms}
 use Rattle.label.specs.Split.{valued-unit, valued-units, valued-with, valued}

@@ -5,7 +5,7 @@ use mathlib.Core.Path.{_≡_, refl, sym, _∙_}
 use mathlib.Core.List.{List}
 use mathlib.Core.Option.{Option, none as nothing, some}
 use Rattle.label.specs.declared.Rules.{Rules}
-use Rattle.label.specs.Rules.{rules-of}
+use Rattle.label.specs.Rows.{rules-of}
 use Rattle.label.specs.Lexical.{Factor, Part}
 use Rattle.label.specs.Grammar.{Derives}
 use Rattle.label.specs.Parse.{Parsed, refused, parsed, parse-by, parse-with, parse}

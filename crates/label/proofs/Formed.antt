@@ -23,7 +23,8 @@ use Rattle.label.specs.Lexical.{Written, unwritten, whole, Part}
 use Rattle.label.specs.Limits.{signed, exclusive-or, Ratio, ratio, sixtieths, bounded, exponent-in, exponent-of, denominator-among, denominator-of, lowest-terms}
 use Rattle.label.specs.Split.{Placed, Valued}
 use Rattle.label.specs.Reading.{term, Reading, refusal, reading-of, reading}
-use Rattle.label.specs.Writing.{Style, power-text, exponent-text, prefix-letters, reads-as, in-quotes, symbol-text, Writable, both-texts, unit-text, factor-text, more-text, label-text, written-by, written, own-letters, writable, ReadsAs, Named, TakesName, Form, ExponentForm, HasForm, Formless, Rewriting, refuse, unless, sized, written-reading, rewriting, Refuses}
+use Rattle.label.specs.Writing.{power-text, exponent-text, prefix-letters, reads-as, in-quotes, symbol-text, Writable, both-texts, unit-text, factor-text, more-text, label-text, written-by, written, own-letters, writable, ReadsAs, Named, TakesName, Form, ExponentForm, HasForm, Formless, Rewriting, refuse, unless, sized, written-reading, rewriting, Refuses}
+use Rattle.label.specs.Rows.{Style}
 use Rattle.label.proofs.Basics.{none-some, false-true}
 use Rattle.label.proofs.General.{SpellingBy, ExponentBy}
 use Rattle.label.proofs.Ruled.{RuledBy, derives-by, notation-ruled, Suited, ruled-suited}

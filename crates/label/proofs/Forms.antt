@@ -13,7 +13,8 @@ use Rattle.label.specs.Notations.{member}
 use Rattle.label.specs.Units.{Name, unit-at}
 use Rattle.label.specs.Symbols.{Symbol, known, unknown, has-name, unquoted, symbol}
 use Rattle.label.specs.Lexical.{Letters}
-use Rattle.label.specs.Writing.{Style, prefix-letters, same-prefix, same-symbol, reads-as, name-among, name-in, named-text, in-quotes, unknown-text, symbol-text, ReadsAs, Named, FirstName, TakesName, Form}
+use Rattle.label.specs.Writing.{prefix-letters, same-prefix, same-symbol, reads-as, name-among, name-in, named-text, in-quotes, unknown-text, symbol-text, ReadsAs, Named, FirstName, TakesName, Form}
+use Rattle.label.specs.Rows.{Style}
 use Rattle.label.proofs.Basics.{false-true, none-some}
 use Rattle.label.proofs.General.{SpellingBy}
 use Rattle.label.proofs.Ruled.{RuledBy, Suited}

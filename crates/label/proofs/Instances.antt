@@ -4,7 +4,7 @@ use mathlib.Core.Path.{_≡_, refl, sym, _∙_}
 use mathlib.Core.Bool.{true, false}
 use mathlib.Core.List.{List, [], _∷_, _++_}
 use Rattle.label.specs.declared.Rules.{Rules}
-use Rattle.label.specs.Rules.{fits-rules, ogip-rules, cds-rules, vounits-rules}
+use Rattle.label.specs.Rows.{fits-rules, ogip-rules, cds-rules, vounits-rules}
 use Rattle.label.specs.Lexical.{Numeral, Written, Factor, Part, turned-all, Kind, item, more, product, quotient, Letters, Wrapped, Spaces}
 use Rattle.label.specs.Fits as Fits
 use Rattle.label.specs.Ogip as Ogip

@@ -22,7 +22,8 @@ use Rattle.label.specs.Limits.{signed, negative, number, exponent-of, k-
 use Rattle.label.specs.Split.{Placed, valued-unit, valued-units, valued-with, valued}
 use Rattle.label.specs.Reading.{term, Reading, reading-of, accept, unless, check-counts, check-values, check-grammar, checked, answered, reading}
 use Rattle.label.specs.Agreement.{Raised, raised-term}
-use Rattle.label.specs.Writing.{Style, style-of, sign, figures, factor-text, exponent-text, prefix-letters, name-in, named-text, symbol-text, own-letters, writable, written-reading, Writable, both-texts, unit-text, more-text, label-text, written-by, written}
+use Rattle.label.specs.Writing.{sign, figures, factor-text, exponent-text, prefix-letters, name-in, named-text, symbol-text, own-letters, writable, written-reading, Writable, both-texts, unit-text, more-text, label-text, written-by, written}
+use Rattle.label.specs.Rows.{Style, style-of}
 use Rattle.label.proofs.Basics.{none-some, T→true}
 use Rattle.label.proofs.General.{G, LabelBy}
 use Rattle.label.proofs.Joints.{opens}

@@ -7,18 +7,19 @@ use mathlib.Core.Option.{Option, some}
 use lib.Dec.{eqb}
 use borrow.Author.Tests.{eqb-true}
 use Rattle.label.specs.declared.Rules.{Rules}
-use Rattle.label.specs.Notations.{Notations, member, everywhere, fractionless, notation, Row, value-among}
-use Rattle.label.specs.Rules.{fits-rules, ogip-rules, cds-rules, vounits-rules, ruled, rules-of}
-use Rattle.label.specs.Lexical.{Factor, Part}
+use Rattle.label.specs.Bytes.{bytes, admitted, all}
+use Rattle.label.specs.Notations.{Notations, member, everywhere, fractionless, notation}
+use Rattle.label.specs.Rows.{fits-rules, ogip-rules, cds-rules, vounits-rules, ruled, rules-of, Row, value-among, Style, fits-style, ogip-style, cds-style, vounits-style, styled, style-of}
+use Rattle.label.specs.Lexical.{Factor, Part, Power}
 use Rattle.label.specs.Cds as Cds
 use Rattle.label.specs.Vounits as Vounits
-use Rattle.label.specs.Grammar.{Derives}
-use Rattle.label.specs.Writing.{Style, fits-style, ogip-style, cds-style, vounits-style, styled, style-of, Spelling}
+use Rattle.label.specs.Grammar.{Derives, Spelling}
 use Rattle.label.proofs.Basics.{false-true, none-some}
-use Rattle.label.proofs.General.{SpellingBy, LabelBy}
+use Rattle.label.proofs.General.{Pad, TimesBy, ExponentBy, WrappedBy, FactorBy, GapBy, SpellingBy, LabelBy}
 use Rattle.label.proofs.Labels.{Coherent}
 use Rattle.label.proofs.Instances.{fits-label, label-fits, spelling-fits, ogip-label, label-ogip, spelling-ogip, cds-label, label-cds, cds-spelling, spelling-cds, vounits-label, label-vounits, vounits-spelling, spelling-vounits}
-use Rattle.label.proofs.Styles.{Suits, suits-fits, suits-ogip, suits-cds, suits-vounits}
+use Rattle.label.proofs.Texts.{quiet}
+use Rattle.label.proofs.Styles.{Suits, integer-by, signed-by}
 
 -- notation n has the rules r
 pub record RuledBy (n : ℕ) (r : Rules) : Type 0 where
@@ -43,6 +44,22 @@ pub record RuledBy (n : ℕ) (r : Rules) : Type 0 where
 spelled-fits : {l : List ℕ} → Spelling 1 l → SpellingBy fits-rules l
 spelled-fits (Spelling.fits d) = SpellingBy.letters d
 
+suits-fits : Suits fits-style fits-rules
+unfolding bytes all quiet admitted
+suits-fits = record {
+  quotes = refl;
+  joint = TimesBy.space refl Pad.none;
+  whole = λ i. ExponentBy.integer refl i;
+  brackets = λ e b. ExponentBy.bracketed refl b;
+  may-lead = refl;
+  factor = λ b u. FactorBy.stars (WrappedBy.bare (integer-by b u));
+  gap = GapBy.one refl;
+  quiet-joint = tt;
+  quiet-raise = tt;
+  quiet-ten = tt;
+  quiet-gap = tt;
+}
+
 fits-ruled : RuledBy 1 fits-rules
 unfolding member notation value-among rules-of ruled style-of styled
 fits-ruled = record {
@@ -62,6 +79,22 @@ fits-ruled = record {
 
 spelled-ogip : {l : List ℕ} → Spelling 2 l → SpellingBy ogip-rules l
 spelled-ogip (Spelling.ogip d) = SpellingBy.letters d
+
+suits-ogip : Suits ogip-style ogip-rules
+unfolding bytes all quiet admitted
+suits-ogip = record {
+  quotes = refl;
+  joint = TimesBy.space refl Pad.none;
+  whole = λ i. ExponentBy.stars refl (Power.integer i);
+  brackets = λ e b. ExponentBy.stars refl (Power.bracketed b);
+  may-lead = refl;
+  factor = λ b u. FactorBy.stars (WrappedBy.bare (integer-by b u));
+  gap = GapBy.one refl;
+  quiet-joint = tt;
+  quiet-raise = tt;
+  quiet-ten = tt;
+  quiet-gap = tt;
+}
 
 ogip-ruled : RuledBy 2 ogip-rules
 unfolding member notation value-among rules-of ruled style-of styled
@@ -83,6 +116,22 @@ ogip-ruled = record {
 spelled-cds : {l : List ℕ} → Spelling 3 l → SpellingBy cds-rules l
 spelled-cds (Spelling.cds d) = cds-spelling d
 
+suits-cds : Suits cds-style cds-rules
+unfolding bytes all quiet admitted
+suits-cds = record {
+  quotes = refl;
+  joint = TimesBy.point refl Pad.none Pad.none;
+  whole = λ i. ExponentBy.integer refl i;
+  brackets = λ e b. absurd (false-true e);
+  may-lead = refl;
+  factor = λ b u. FactorBy.signed refl (signed-by b u);
+  gap = GapBy.nothing;
+  quiet-joint = tt;
+  quiet-raise = tt;
+  quiet-ten = tt;
+  quiet-gap = tt;
+}
+
 cds-ruled : RuledBy 3 cds-rules
 unfolding member notation value-among rules-of ruled style-of styled
 cds-ruled = record {
@@ -102,6 +151,22 @@ cds-ruled = record {
 
 spelled-vounits : {l : List ℕ} → Spelling 4 l → SpellingBy vounits-rules l
 spelled-vounits (Spelling.vounits d) = vounits-spelling d
+
+suits-vounits : Suits vounits-style vounits-rules
+unfolding bytes all quiet admitted
+suits-vounits = record {
+  quotes = refl;
+  joint = TimesBy.point refl Pad.none Pad.none;
+  whole = λ i. ExponentBy.stars refl (Power.integer i);
+  brackets = λ e b. ExponentBy.stars refl (Power.bracketed b);
+  may-lead = refl;
+  factor = λ b u. FactorBy.stars (WrappedBy.bare (integer-by b u));
+  gap = GapBy.nothing;
+  quiet-joint = tt;
+  quiet-raise = tt;
+  quiet-ten = tt;
+  quiet-gap = tt;
+}
 
 vounits-ruled : RuledBy 4 vounits-rules
 unfolding member notation value-among rules-of ruled style-of styled

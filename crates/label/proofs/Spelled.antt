@@ -19,7 +19,8 @@ use Rattle.label.specs.Units.{Name, unit-at}
 use Rattle.label.specs.Symbols.{Symbol, known, unknown, has-name, symbol}
 use Rattle.label.specs.Lexical.{Written, unwritten, whole, fraction, Letters, PrefixName, Quoted, Bracketed}
 use Rattle.label.specs.Limits.{signed, negative, ratio, exponent-of}
-use Rattle.label.specs.Writing.{Style, sign, figures, whole-text, fraction-text, power-text, exponent-text, prefix-letters, same-prefix, same-symbol, reads-as, name-among, name-in, named-text, in-quotes, unknown-text, symbol-text}
+use Rattle.label.specs.Writing.{sign, figures, whole-text, fraction-text, power-text, exponent-text, prefix-letters, same-prefix, same-symbol, reads-as, name-among, name-in, named-text, in-quotes, unknown-text, symbol-text}
+use Rattle.label.specs.Rows.{Style}
 use Rattle.label.proofs.Basics.{none-some, false-true, and-left, and-right, same-is}
 use Rattle.label.proofs.General.{SpellingBy, ExponentBy}
 use Rattle.label.proofs.Figures.{Digited, figures-of, Lowered, lowered, ratio-back, signed-size}

@@ -1,16 +1,15 @@
--- What a style writes is in its notation's grammar: each style beside its notation's rules.
+-- What a style needs of the rules of its notation, so that what it writes is in the grammar.
 use Prim.Native.Nat.{ℕ}
-use mathlib.Core.Path.{_≡_, refl}
+use mathlib.Core.Path.{_≡_}
 use mathlib.Core.Bool.{Bool, true, false, _||_}
 use mathlib.Core.List.{List, _++_}
 use lib.Dec.{T}
 use Rattle.label.specs.declared.Rules.{Rules}
-use Rattle.label.specs.Bytes.{bytes, admitted, all}
-use Rattle.label.specs.Rules.{fits-rules, ogip-rules, cds-rules, vounits-rules}
-use Rattle.label.specs.Lexical.{Numeral, Written, whole, ten-to, Unsigned, Signed, Integer, Bracketed, Power}
-use Rattle.label.specs.Writing.{Style, fits-style, ogip-style, cds-style, vounits-style, sign}
-use Rattle.label.proofs.Basics.{false-true}
-use Rattle.label.proofs.General.{Pad, TimesBy, ExponentBy, WrappedBy, FactorBy, GapBy}
+use Rattle.label.specs.Bytes.{all}
+use Rattle.label.specs.Rows.{Style}
+use Rattle.label.specs.Lexical.{Numeral, Written, whole, ten-to, Unsigned, Signed, Integer, Bracketed}
+use Rattle.label.specs.Writing.{sign}
+use Rattle.label.proofs.General.{TimesBy, ExponentBy, FactorBy, GapBy}
 use Rattle.label.proofs.Texts.{quiet}
 
 -- what a style needs of the rules by which its texts are read
@@ -32,70 +31,6 @@ pub integer-by : (b : Bool) {ds : List ℕ} → Unsigned ds → Integer (sign fa
 integer-by true u = Integer.signed (Signed.negative u)
 integer-by false u = Integer.plain u
 
-signed-by : (b : Bool) {ds : List ℕ} → Unsigned ds → Signed (sign true b ++ ds) (record { negative = b; digits = ds })
+pub signed-by : (b : Bool) {ds : List ℕ} → Unsigned ds → Signed (sign true b ++ ds) (record { negative = b; digits = ds })
 signed-by true u = Signed.negative u
 signed-by false u = Signed.positive u
-
-pub suits-fits : Suits fits-style fits-rules
-unfolding bytes all quiet admitted
-suits-fits = record {
-  quotes = refl;
-  joint = TimesBy.space refl Pad.none;
-  whole = λ i. ExponentBy.integer refl i;
-  brackets = λ e b. ExponentBy.bracketed refl b;
-  may-lead = refl;
-  factor = λ b u. FactorBy.stars (WrappedBy.bare (integer-by b u));
-  gap = GapBy.one refl;
-  quiet-joint = tt;
-  quiet-raise = tt;
-  quiet-ten = tt;
-  quiet-gap = tt;
-}
-
-pub suits-ogip : Suits ogip-style ogip-rules
-unfolding bytes all quiet admitted
-suits-ogip = record {
-  quotes = refl;
-  joint = TimesBy.space refl Pad.none;
-  whole = λ i. ExponentBy.stars refl (Power.integer i);
-  brackets = λ e b. ExponentBy.stars refl (Power.bracketed b);
-  may-lead = refl;
-  factor = λ b u. FactorBy.stars (WrappedBy.bare (integer-by b u));
-  gap = GapBy.one refl;
-  quiet-joint = tt;
-  quiet-raise = tt;
-  quiet-ten = tt;
-  quiet-gap = tt;
-}
-
-pub suits-cds : Suits cds-style cds-rules
-unfolding bytes all quiet admitted
-suits-cds = record {
-  quotes = refl;
-  joint = TimesBy.point refl Pad.none Pad.none;
-  whole = λ i. ExponentBy.integer refl i;
-  brackets = λ e b. absurd (false-true e);
-  may-lead = refl;
-  factor = λ b u. FactorBy.signed refl (signed-by b u);
-  gap = GapBy.nothing;
-  quiet-joint = tt;
-  quiet-raise = tt;
-  quiet-ten = tt;
-  quiet-gap = tt;
-}
-
-pub suits-vounits : Suits vounits-style vounits-rules
-unfolding bytes all quiet admitted
-suits-vounits = record {
-  quotes = refl;
-  joint = TimesBy.point refl Pad.none Pad.none;
-  whole = λ i. ExponentBy.stars refl (Power.integer i);
-  brackets = λ e b. ExponentBy.stars refl (Power.bracketed b);
-  may-lead = refl;
-  factor = λ b u. FactorBy.stars (WrappedBy.bare (integer-by b u));
-  gap = GapBy.nothing;
-  quiet-joint = tt;
-  quiet-raise = tt;
-  quiet-ten = tt;
-  quiet-gap = tt;
-}

@@ -1,6 +1,7 @@
 pub mod Bytes
 pub mod Choice
 pub mod Notations
+pub mod Rows
 pub mod Prefixes
 pub mod Units
 pub mod Symbols
@@ -10,7 +11,6 @@ pub mod Ogip
 pub mod Cds
 pub mod Vounits
 pub mod Grammar
-pub mod Rules
 pub mod Parse
 pub mod Limits
 pub mod Split

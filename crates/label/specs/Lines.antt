@@ -4,9 +4,9 @@ use mathlib.Core.Bool.{Bool, true, false, _&&_}
 use mathlib.Core.List.{List, [], _∷_, _++_}
 use lib.Dec.{leb, ltb, eqb}
 use lib.ListN.{length, getD}
-use Rattle.label.specs.Bytes.{bytes, tab, newline, digit-zero, same}
+use Rattle.label.specs.Bytes.{tab, newline, digit-zero, same}
 use Rattle.label.specs.Choice.{pick}
-use Rattle.label.specs.Notations.{fits, ogip, cds, vounits}
+use Rattle.label.specs.Rows.{Row, named}
 use Rattle.label.specs.Writing.{Rewriting, rewriting}
 
 -- PARTS
@@ -38,13 +38,14 @@ most-line = 512
 abbrev pub no-notation : ℕ
 no-notation = 0
 
--- "notation (fits, ogip, cds, vou)"; "Another notation name: 1."
+-- the number of the row with that name; "Another notation name: 1."
+unfoldable pub number-named : List ℕ → List (Row (List ℕ)) → ℕ
+number-named s [] = no-notation
+number-named s (x ∷ xs) = elim (same s (x .value)) [ true ↦ x .number | false ↦ number-named s xs ]
+
+-- "notation (fits, ogip, cds, vou)"
 unfoldable pub notation-named : List ℕ → ℕ
-notation-named s =
-    pick (same s (bytes "fits")) fits
-    (pick (same s (bytes "ogip")) ogip
-    (pick (same s (bytes "cds")) cds
-    (pick (same s (bytes "vou")) vounits no-notation)))
+notation-named s = number-named s named
 
 -- a number below 100 in decimal
 unfoldable pub decimal : ℕ → List ℕ

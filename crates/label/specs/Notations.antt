@@ -1,8 +1,7 @@
--- The notations and their numbers.
+-- The notations: their numbers, and the sets of them that document 01 names.
 use Prim.Native.Nat.{ℕ}
 use mathlib.Core.Bool.{Bool, true, false, _||_}
 use mathlib.Core.List.{List, [], _∷_}
-use mathlib.Core.Option.{Option, none, some}
 use lib.Dec.{eqb}
 
 -- "1 FITS, 2 OGIP, 3 CDS, 4 VOUnits"
@@ -61,14 +60,3 @@ fractionless = only-cds
 -- the number of a notation
 unfoldable pub notation : ℕ → Bool
 notation n = member n everywhere
-
--- TABLES BY NOTATION
-
--- a notation's number and what a table has for it
-pub record Row (A : Type 0) : Type 0 where
-  pub number : ℕ
-  pub value : A
-
-unfoldable pub value-among : {A : Type 0} → ℕ → List (Row A) → Option A
-value-among n [] = none
-value-among n (x ∷ xs) = elim (eqb n (x .number)) [ true ↦ some (x .value) | false ↦ value-among n xs ]

@@ -9,7 +9,7 @@ use Rattle.label.specs.declared.Rules.{Rules}
 use Rattle.label.specs.Bytes.{space, percent, quote, open-bracket, close-bracket, star, plus, minus, point, slash, caret, digit-zero, digit-one, letter, digit, nonzero, all, run, past}
 use Rattle.label.specs.Choice.{pick}
 use Rattle.label.specs.Prefixes.{prefix-name}
-use Rattle.label.specs.Rules.{rules-of}
+use Rattle.label.specs.Rows.{rules-of}
 use Rattle.label.specs.Lexical.{Numeral, Written, unwritten, whole, decimal, fraction, Factor, no-factor, ten-to, zeros, Part, Kind, item, more, product, quotient}
 
 -- what is found at the start of a text, with what follows it; or nothing

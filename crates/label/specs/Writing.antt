@@ -11,96 +11,16 @@ use Rattle.label.specs.declared.Exponent.{Exponent}
 use Rattle.label.specs.declared.Tens.{Tens}
 use Rattle.label.specs.Bytes.{bytes, quote, open-bracket, close-bracket, plus, minus, slash, digit-zero, same}
 use Rattle.label.specs.Choice.{pick}
-use Rattle.label.specs.Notations.{fits as fits-number, ogip as ogip-number, cds as cds-number, vounits as vounits-number, member, fractionless, notation, Row, value-among}
+use Rattle.label.specs.Notations.{member, fractionless, notation}
+use Rattle.label.specs.Rows.{Style, style-of}
 use Rattle.label.specs.Prefixes.{prefix, prefixes}
 use Rattle.label.specs.Units.{Name, unit-at}
 use Rattle.label.specs.Symbols.{Symbol, known, unknown, has-name, symbol}
-use Rattle.label.specs.Lexical.{Letters}
-use Rattle.label.specs.Cds as Cds
-use Rattle.label.specs.Vounits as Vounits
+use Rattle.label.specs.Grammar.{Spelling}
 use Rattle.label.specs.Limits.{most-bytes, most-digits, negative, lowest-terms}
 use Rattle.label.specs.Split.{Condition1, Refused}
 use Rattle.label.specs.Reading.{Term, Reading, reading}
 use Rattle.label.specs.Agreement.{raised-term, bytes-at}
-
--- STYLES: how a notation writes, one row each
-
-pub record Style : Type 0 where
-  -- whether an unknown unit may be quoted
-  pub quotes : Bool
-  -- what joins units
-  pub joint : List ℕ
-  -- what comes before an exponent, whether a negative whole one has brackets, and whether a fraction has a form
-  pub raise : List ℕ
-  pub wrapped : Bool
-  pub fractions : Bool
-  -- what comes before k, whether a k above 0 has a plus, and what comes after k
-  pub ten : List ℕ
-  pub signed : Bool
-  pub gap : List ℕ
-
--- "`10**k` and a space (FITS, OGIP), `10**k` (VOUnits), `10+3` or `10-3` style (CDS). Joined by a space (FITS, OGIP) or a point."
--- "Whole: m-2 (FITS, CDS), `m**-2` (VOUnits), `m**2` and `m**(-2)` (OGIP). Fraction p/q: m(p/q) (FITS), `m**(p/q)` (OGIP, VOUnits),
--- none in CDS. No plus but in the CDS factor."
-abbrev pub fits-style : Style
-fits-style = record {
-  quotes = false;
-  joint = bytes " ";
-  raise = bytes "";
-  wrapped = false;
-  fractions = true;
-  ten = bytes "10**";
-  signed = false;
-  gap = bytes " ";
-}
-
-abbrev pub ogip-style : Style
-ogip-style = record {
-  quotes = false;
-  joint = bytes " ";
-  raise = bytes "**";
-  wrapped = true;
-  fractions = true;
-  ten = bytes "10**";
-  signed = false;
-  gap = bytes " ";
-}
-
-abbrev pub cds-style : Style
-cds-style = record {
-  quotes = false;
-  joint = bytes ".";
-  raise = bytes "";
-  wrapped = false;
-  fractions = false;
-  ten = bytes "10";
-  signed = true;
-  gap = bytes "";
-}
-
-abbrev pub vounits-style : Style
-vounits-style = record {
-  quotes = true;
-  joint = bytes ".";
-  raise = bytes "**";
-  wrapped = false;
-  fractions = true;
-  ten = bytes "10**";
-  signed = false;
-  gap = bytes "";
-}
-
-unfoldable pub styled : List (Row Style)
-styled =
-    record { number = fits-number; value = fits-style }
-    ∷ record { number = ogip-number; value = ogip-style }
-    ∷ record { number = cds-number; value = cds-style }
-    ∷ record { number = vounits-number; value = vounits-style }
-    ∷ []
-
--- the style of notation n
-unfoldable pub style-of : ℕ → Option Style
-style-of n = value-among n styled
 
 -- NUMBERS
 
@@ -241,13 +161,6 @@ unfoldable pub writable : List ℕ → Term → Writable
 writable s t = record { own = own-letters (t .symbol) (bytes-at s t); symbol = t .symbol; exponent = t .exponent }
 
 -- WHAT HAS A FORM
-
--- a spelling of notation m
-pub data Spelling : ℕ → List ℕ → Type 0 where
-  fits : {l : List ℕ} → Letters l → Spelling fits-number l
-  ogip : {l : List ℕ} → Letters l → Spelling ogip-number l
-  cds : {l : List ℕ} → Cds.Spelling l → Spelling cds-number l
-  vounits : {l : List ℕ} → Vounits.Spelling l → Spelling vounits-number l
 
 -- notation m reads the spelling l as x
 pub record ReadsAs (m : ℕ) (l : List ℕ) (x : Symbol) : Type 0 where

@@ -1,6 +1,5 @@
 pub mod Parts
 pub mod Putting
-pub mod Naming
 pub mod Lines
 pub mod Results
 pub mod Outputs

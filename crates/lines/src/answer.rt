@@ -1,6 +1,6 @@
 // The answer to a line.
-use crate::names::notation_named;
 use crate::numbers::put_number;
+use notations::rows::notation_named;
 use rewriting::rewrite::Rewritten;
 use rewriting::rewrite::rewrite;
 ghost use Prim.Native.Nat.{_≤_};

@@ -17,7 +17,8 @@ use Rattle.label.proofs.Basics.{false-true}
 use Rattle.label.specs.Notations.{member, notation}
 use Rattle.label.specs.Ranges.{between}
 use Rattle.label.specs.Reading.{Reading, reading}
-use Rattle.label.specs.Writing.{Writable, Rewriting, refuse, unless, sized, rewriting, label-text, written-by, written, written-reading, writable, style-of}
+use Rattle.label.specs.Writing.{Writable, Rewriting, refuse, unless, sized, rewriting, label-text, written-by, written, written-reading, writable}
+use Rattle.label.specs.Rows.{style-of}
 use Rattle.label.proofs.Between.{length-between}
 use Rattle.descent.specs.Terms.{Lent, count}
 use Rattle.content.specs.Views.{terms-in}

@@ -17,7 +17,8 @@ use Rattle.label.specs.Symbols as spec
 use Rattle.label.specs.Units.{Name, unit-at}
 use Rattle.label.specs.Agreement.{bytes-at}
 use Rattle.label.specs.Reading.{Term, exponent}
-use Rattle.label.specs.Writing.{Style, Writable, prefix-letters, name-in, factor-text, symbol-text, exponent-text, both-texts, unit-text, more-text, label-text, own-letters, writable}
+use Rattle.label.specs.Writing.{Writable, prefix-letters, name-in, factor-text, symbol-text, exponent-text, both-texts, unit-text, more-text, label-text, own-letters, writable}
+use Rattle.label.specs.Rows.{Style}
 use Rattle.symbols.specs.declared.Symbol.{Symbol}
 use Rattle.symbols.specs.Views.{place, symbol-in}
 use Rattle.label.proofs.Between.{drop-between}

@@ -12,7 +12,8 @@ use Rattle.label.specs.declared.Tens.{Tens}
 use Rattle.label.specs.Choice.{pick}
 use Rattle.label.specs.Limits.{negative, denominator-of, lowest-terms}
 use Rattle.label.specs.Reading.{exponent}
-use Rattle.label.specs.Writing.{Style, sign, figures, factor-text, whole-text, fraction-text, power-text, exponent-text}
+use Rattle.label.specs.Writing.{sign, figures, factor-text, whole-text, fraction-text, power-text, exponent-text}
+use Rattle.label.specs.Rows.{Style}
 
 module _ (y : Style) (b : Bool) (p q : ℕ) where
   pub power-fraction : (q ≡ 1 → ⊥) → y .fractions ≡ true → power-text y b p q ≡ some (fraction-text y b p q)

@@ -15,7 +15,8 @@ use Rattle.label.specs.Ranges.{between}
 use Rattle.label.specs.Symbols.{known, unknown, symbol}
 use Rattle.label.specs.Symbols as spec
 use Rattle.label.specs.Units.{unit-at}
-use Rattle.label.specs.Writing.{Style, prefix-letters, same-prefix, same-symbol, reads-as, name-in, named-text, in-quotes, unknown-text, symbol-text, both-texts}
+use Rattle.label.specs.Writing.{prefix-letters, same-prefix, same-symbol, reads-as, name-in, named-text, in-quotes, unknown-text, symbol-text, both-texts}
+use Rattle.label.specs.Rows.{Style}
 use Rattle.symbols.specs.declared.Symbol.{Symbol}
 use Rattle.symbols.specs.Columns.{name-keys}
 use Rattle.symbols.specs.Views.{place, symbol-in}

@@ -11,7 +11,8 @@ use Rattle.label.specs.Limits.{most-bytes, most-terms}
 use Rattle.label.specs.Units.{unit-at}
 use Rattle.label.specs.Reading as reading
 use Rattle.label.specs.Agreement.{bytes-at}
-use Rattle.label.specs.Writing.{Style, Writable, prefix-letters, name-in, both-texts, unit-text, more-text, own-letters}
+use Rattle.label.specs.Writing.{Writable, prefix-letters, name-in, both-texts, unit-text, more-text, own-letters}
+use Rattle.label.specs.Rows.{Style}
 use Rattle.symbols.specs.declared.Symbol.{Symbol}
 use Rattle.symbols.specs.Views.{place, symbol-in}
 use Rattle.content.specs.Views.{symbol-at}

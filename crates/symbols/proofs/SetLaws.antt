@@ -17,7 +17,7 @@ unfoldable pub alike : Bool → Bool → Bool
 alike true b = b
 alike false b = not b
 
-alike-is : (a b : Bool) → T (alike a b) → a ≡ b
+pub alike-is : (a b : Bool) → T (alike a b) → a ≡ b
 unfolding alike
 alike-is true true t = refl
 alike-is false false t = refl

@@ -4,7 +4,7 @@ use native.Mathlib.Omega.{arith}
 use borrow.Author.Needs.{needs}
 use mathlib.Core.Path.{refl}
 use lib.ListN.{length}
-use Rattle.checks.proofs.Notations.{Passed, admitted₁, admitted₂, admitted₃}
+use Rattle.checks.proofs.Admitted.{Passed, admitted₁, admitted₂, admitted₃}
 use Rattle.checks.proofs.bytes.all_admitted.Statement.{statement}
 use Rattle.checks.proofs.bytes.all_admitted.Tie as tie
 use Rattle.checks.proofs.bytes.all_admitted.Reads as reads

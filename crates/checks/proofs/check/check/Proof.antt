@@ -1,6 +1,6 @@
 -- `checks::check::check` meets its contract: each way is one of `Checking`.
 use native.Mathlib.Omega.{arith}
-use Rattle.checks.proofs.Notations.{is-a-notation}
+use Rattle.notations.proofs.Numbers.{is-a-notation, is-a-byte}
 use Rattle.checks.proofs.Checking.{check₁, check₂, check₃, check₄, check₅}
 use borrow.Author.Needs.{needs}
 use Rattle.checks.proofs.check.check.Statement.{statement}
@@ -10,8 +10,8 @@ use Rattle.checks.proofs.check.check.Lts as lts
 use Rattle.checks.proofs.bytes.all_admitted.Reads as all-admitted-reads
 use Rattle.checks.proofs.check.check_values.Reads as check-values-reads
 use Rattle.checks.proofs.check.rejected.Reads as rejected-reads
-use Rattle.checks.proofs.notation.is_notation.Reads as is-notation-reads
-use Rattle.checks.proofs.notation.rules.Reads as rules-reads
+use Rattle.notations.proofs.rows.is_notation.Reads as is-notation-reads
+use Rattle.notations.proofs.rows.rules.Reads as rules-reads
 use Rattle.descent.proofs.whole.read_label.Reads as read-label-reads
 
 is-notation-requires : tie.Need-is-notation-requires
@@ -37,6 +37,9 @@ rejected-requires-3 c κs = search needs
 
 returns-3 : tie.Need-returns-3
 returns-3 c = search (check₃, arith)
+
+cast-rules : tie.Need-cast-rules
+cast-rules c = search (is-a-byte, arith)
 
 rules-requires : tie.Need-rules-requires
 rules-requires c κs = search (is-a-notation, arith)
@@ -74,6 +77,7 @@ check-spec =
     all-admitted-requires
     rejected-requires-3
     returns-3
+    cast-rules
     rules-requires
     read-label-requires
     rejected-requires-4

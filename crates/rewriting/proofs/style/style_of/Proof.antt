@@ -7,7 +7,8 @@ use lib.Dec.{eqb}
 use borrow.Author.Tests.{eqb-true, ne-eqb}
 use Rattle.label.proofs.Basics.{false-true}
 use Rattle.label.specs.Bytes.{bytes}
-use Rattle.label.specs.Notations.{member, notation, value-among}
+use Rattle.label.specs.Notations.{member, notation}
+use Rattle.label.specs.Rows.{value-among}
 use Rattle.label.specs.Writing as spec
 use Rattle.rewriting.specs.Styles.{style-in, StyleOf}
 use Rattle.rewriting.proofs.style.style_of.Statement.{statement}

@@ -1,22 +1,15 @@
--- Notation numbers, their rules, and admitted bytes: one law for each way through the code.
+-- The notations' numbers: 1 to how many there are.
 use Prim.Native.Nat.{ℕ, zero, suc, _≤_, _<_, _+_}
 use native.Mathlib.Omega.{arith}
 use native.Mathlib.Decide.{ℕ-discrete, decLt}
 use mathlib.Core.Path.{_≡_, refl, sym, ap, _∙_}
 use mathlib.Core.Bool.{Bool, true, false, _||_, not}
-use mathlib.Core.List.{List, [], _∷_}
-use mathlib.Core.Option.{some}
+use mathlib.Core.List.{[], _∷_}
 use lib.Dec.{leb, eqb}
-use lib.ListN.{length, drop, getD}
-use borrow.Author.Tests.{leb-true, le-leb, lt-leb, eq-eqb, ne-eqb, not-true, not-false}
-use Rattle.label.specs.declared.Rules.{Rules}
-use Rattle.label.specs.Bytes.{within, admitted, all}
-use Rattle.label.specs.Notations.{Notations, member, everywhere, notation, value-among}
-use Rattle.label.specs.Rules.{fits-rules, ogip-rules, cds-rules, vounits-rules, ruled, rules-of}
+use lib.ListN.{length}
+use borrow.Author.Tests.{leb-true, le-leb, lt-leb, eq-eqb, ne-eqb, not-false}
+use Rattle.label.specs.Notations.{Notations, member, everywhere, notation}
 use Rattle.label.proofs.Basics.{false-true}
-use Rattle.label.proofs.Between.{here, beyond}
-
--- NUMBERS
 
 -- k numbers from a on
 numbers : ℕ → ℕ → Notations
@@ -72,41 +65,6 @@ in-range n t = go (ℕ-discrete n 0)
 pub is-a-notation : (n : ℕ) (b : Bool) → b ≡ notation n → not b ≡ false → notation n ≡ true
 is-a-notation n b e t = sym e ∙ not-false b t
 
--- RULES
-
-module _ {n : ℕ} {r : Rules} where
-  pub rules₁ : n ≡ 1 → r ≡ fits-rules → rules-of n ≡ some r
-  unfolding rules-of value-among ruled
-  rules₁ e q = rw (e, q)
-
-  pub rules₂ : n ≡ 2 → r ≡ ogip-rules → rules-of n ≡ some r
-  unfolding rules-of value-among ruled
-  rules₂ e q = rw (e, q)
-
-  pub rules₃ : n ≡ 3 → r ≡ cds-rules → rules-of n ≡ some r
-  unfolding rules-of value-among ruled
-  rules₃ e q = rw (e, q)
-
-  pub rules₄ : notation n ≡ true → (n ≡ 1 → ⊥) → (n ≡ 2 → ⊥) → (n ≡ 3 → ⊥) → r ≡ vounits-rules → rules-of n ≡ some r
-  unfolding rules-of value-among ruled
-  rules₄ t a b c q = let w = in-range n t in let e : n ≡ last = omega (arith, w .least, w .most) in rw (e, q)
-
--- BYTES
-
--- the bytes before i are admitted
-pub record Passed (s : List ℕ) (i : ℕ) : Type 0 where
-  pub within : i ≤ length s
-  pub is : all admitted s ≡ all admitted (drop i s)
-
-module _ {s : List ℕ} {i : ℕ} (w : Passed s i) where
-  pub admitted₁ : {x : Bool} → i < length s → x ≡ within 32 126 (getD s i 0) → not x ≡ true → false ≡ all admitted s
-  unfolding all admitted
-  admitted₁ {x} h e t = sym (w .is ∙ (rw (here s i h, sym e ∙ not-true x t)))
-
-  pub admitted₂ : {x : Bool} → i < length s → x ≡ within 32 126 (getD s i 0) → not x ≡ false → Passed s (i + 1)
-  unfolding all admitted
-  admitted₂ {x} h e t = record { within = omega arith; is = w .is ∙ (rw (here s i h, sym e ∙ not-false x t)) }
-
-  pub admitted₃ : length s ≤ i → true ≡ all admitted s
-  unfolding all
-  admitted₃ h = sym (w .is ∙ (rw (beyond s i h)))
+-- the number of a notation is a byte
+pub is-a-byte : (n : ℕ) (b : Bool) → b ≡ notation n → not b ≡ false → n < 256
+is-a-byte n b e t = omega (arith, in-range n (is-a-notation n b e t) .most)

@@ -1,0 +1,96 @@
+-- `notations::rows::notation_named` meets its contract: each turn of the loop is one of `NameLaws`.
+use Prim.Native.Nat.{_-_}
+use native.Mathlib.Omega.{arith}
+use mathlib.Core.Path.{_∙_}
+use Rattle.label.specs.Rows.{named}
+use Rattle.symbols.specs.Sets.{room}
+use Rattle.notations.proofs.NameLaws.{Searching, search-start, search-all, search-hit, search-miss, too-long}
+use borrow.Author.Needs.{needs}
+use Rattle.notations.proofs.rows.notation_named.Statement.{statement}
+use Rattle.notations.proofs.rows.notation_named.Tie as tie
+
+abbrev Inv-loop : tie.InvT-loop
+Inv-loop name size number sizes keys i₀ i = Searching name size number i
+
+abbrev μ-loop : tie.MeasureT-loop
+μ-loop name size number sizes keys i₀ i = room - i
+
+returns : tie.Need-returns Inv-loop μ-loop
+returns c = too-long _ (c .if1 .taken)
+
+key-requires : tie.Need-key-requires Inv-loop μ-loop
+key-requires c κs = search needs
+
+name-sizes-requires : tie.Need-name-sizes-requires Inv-loop μ-loop
+name-sizes-requires c κs = search needs
+
+name-keys-requires : tie.Need-name-keys-requires Inv-loop μ-loop
+name-keys-requires c κs = search needs
+
+loop-holds : tie.Need-loop-holds Inv-loop μ-loop
+loop-holds c = search-start _ _ (c .before .before .before .before .shared-slice-known .given) (c .before .before .key .ensures)
+
+cast-at : tie.Need-cast-at Inv-loop μ-loop
+cast-at c = search needs
+
+mul-same-symbol : tie.Need-mul-same-symbol Inv-loop μ-loop
+mul-same-symbol c = omega arith
+
+array-read-same-symbol : tie.Need-array-read-same-symbol Inv-loop μ-loop
+array-read-same-symbol c = omega arith
+
+mul-same-symbol-2 : tie.Need-mul-same-symbol-2 Inv-loop μ-loop
+mul-same-symbol-2 c = omega arith
+
+array-read-same-symbol-2 : tie.Need-array-read-same-symbol-2 Inv-loop μ-loop
+array-read-same-symbol-2 c = omega arith
+
+same-symbol-requires : tie.Need-same-symbol-requires Inv-loop μ-loop
+same-symbol-requires c κs = search needs
+
+add-result : tie.Need-add-result Inv-loop μ-loop
+add-result c = omega arith
+
+returns-2 : tie.Need-returns-2 Inv-loop μ-loop
+unfolding named
+returns-2 c =
+    search-hit (c .before .before .before .loop .inv) (c .before .before .loop-test .taken) (rw (c .before .before .before .before .before .name-sizes .ensures, c .before .before .before .before .name-keys .ensures) at (c .before .same-symbol .ensures)) (c .if2 .taken)
+
+add-i : tie.Need-add-i Inv-loop μ-loop
+add-i c = omega arith
+
+loop-less : tie.Need-loop-less Inv-loop μ-loop
+loop-less c = omega arith
+
+loop-again : tie.Need-loop-again Inv-loop μ-loop
+unfolding named
+loop-again c =
+    search-miss (c .before .before .before .loop .inv) (c .before .before .loop-test .taken) (rw (c .before .before .before .before .before .name-sizes .ensures, c .before .before .before .before .name-keys .ensures) at (c .before .same-symbol .ensures)) (c .if2 .left)
+
+returns-3 : tie.Need-returns-3 Inv-loop μ-loop
+unfolding named
+returns-3 c = search-all (c .before .loop .inv) (c .loop-test .left)
+
+pub notation-named-spec : {M : Type 1} → statement M
+notation-named-spec =
+    tie.close
+    (tie.spec
+    Inv-loop
+    μ-loop
+    returns
+    key-requires
+    name-sizes-requires
+    name-keys-requires
+    loop-holds
+    cast-at
+    mul-same-symbol
+    array-read-same-symbol
+    mul-same-symbol-2
+    array-read-same-symbol-2
+    same-symbol-requires
+    add-result
+    returns-2
+    add-i
+    loop-less
+    loop-again
+    returns-3)

@@ -1,0 +1,2 @@
+// The list of notations, as label/specs/Rows.antt has it.
+pub mod rows;

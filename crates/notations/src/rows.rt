@@ -1,0 +1,161 @@
+// What each notation has, as label/specs/Rows.antt says: its rules, how it writes, and its name. A property is the set of the notations that have it.
+use label::Rules;
+use symbols::keys::has_notation;
+use symbols::keys::key;
+use symbols::keys::same_symbol;
+ghost use mathlib.Core.Path.{_≡_};
+ghost use mathlib.Core.Bool.{true};
+ghost use mathlib.Core.Option.{some};
+ghost use Rattle.label.specs.Lines.{notation-named};
+ghost use Rattle.label.specs.Notations.{notation};
+ghost use Rattle.label.specs.Rows.{rules-of};
+ghost use Rattle.notations.specs.Columns.{InSet, joints, JointOf, name-sizes, name-keys};
+ghost use Rattle.notations.specs.Styles.{StyleOf};
+
+// How many notations there are: their numbers are 1 to this one.
+const NOTATIONS: u32 = 4;
+
+// Sets of one notation each. The bit is that of its number.
+const FITS: u8 = 1;
+
+const OGIP: u8 = 2;
+
+const CDS: u8 = 4;
+
+const VOUNITS: u8 = 8;
+
+// The notations' names, fits, ogip, cds and vou: how many letters they have, and their keys.
+const SIZES: [usize; 4] = [4, 4, 3, 3];
+
+const KEYS: [u64; 4] = [0x66697473, 0x6f676970, 0x636473, 0x766f75];
+
+// What joins the units that the notations write.
+const JOINTS: [u8; 4] = [b' ', b' ', b'.', b'.'];
+
+// How a notation writes.
+pub struct Style {
+    // The number of the notation.
+    pub notation: u8,
+    // Whether an unknown unit may be quoted.
+    pub quotes: bool,
+    // The byte between units.
+    pub joint: u8,
+    // Whether two stars come before an exponent, whether a negative whole one has brackets, and whether a fraction has a form.
+    pub stars: bool,
+    pub wrapped: bool,
+    pub fractions: bool,
+    // Whether two stars come before k, whether a plus comes before a k above 0, and whether a space follows k.
+    pub ten_stars: bool,
+    pub signed: bool,
+    pub gap: bool,
+}
+
+// Whether `n` is the number of a notation.
+pub fn is_notation(n: u32) -> bool
+    ensures { λ r. ⌜ r ≡ notation n ⌝ }
+{
+    if n == 0 {
+        return false;
+    }
+    n <= NOTATIONS
+}
+
+// Whether notation `n` is in the set.
+fn has(n: u8, set: u8) -> bool
+    ensures { λ r. ⌜ InSet n set r ⌝ }
+{
+    has_notation(n, set)
+}
+
+// The rules of notation `n`.
+pub fn rules(n: u8) -> Rules
+    requires { ⌜ notation n ≡ true ⌝ }
+    ensures { λ r. ⌜ rules-of n ≡ some r ⌝ }
+{
+    Rules {
+        percent: has(n, CDS),
+        quotes: has(n, VOUNITS),
+        direct: has(n, FITS | CDS),
+        brackets: has(n, FITS),
+        stars: has(n, FITS | OGIP | VOUNITS),
+        caret: has(n, FITS),
+        space: has(n, FITS | OGIP),
+        spaces: has(n, OGIP),
+        star: has(n, FITS | OGIP),
+        point: has(n, FITS | CDS | VOUNITS),
+        each: has(n, OGIP | CDS),
+        within: has(n, VOUNITS),
+        lead: has(n, FITS),
+        factor: has(n, FITS | OGIP | CDS | VOUNITS),
+        wrapped: has(n, FITS | OGIP | VOUNITS),
+        signed: has(n, FITS | CDS),
+        plain: has(n, OGIP | CDS | VOUNITS),
+    }
+}
+
+fn joints() -> [u8; 4]
+    ensures { λ r. ⌜ r ≡ joints ⌝ }
+{
+    JOINTS
+}
+
+// The byte between the units that notation `n` writes.
+fn joint(n: u8) -> u8
+    requires { ⌜ notation n ≡ true ⌝ }
+    ensures { λ r. ⌜ JointOf n r ⌝ }
+{
+    let all = joints();
+    all[n as usize - 1]
+}
+
+// The style of notation `n`.
+pub fn style_of(n: u8) -> Style
+    requires { ⌜ notation n ≡ true ⌝ }
+    ensures { λ r. ⌜ StyleOf n r ⌝ }
+{
+    Style {
+        notation: n,
+        quotes: has(n, VOUNITS),
+        joint: joint(n),
+        stars: has(n, OGIP | VOUNITS),
+        wrapped: has(n, OGIP),
+        fractions: has(n, FITS | OGIP | VOUNITS),
+        ten_stars: has(n, FITS | OGIP | VOUNITS),
+        signed: has(n, CDS),
+        gap: has(n, FITS | OGIP),
+    }
+}
+
+fn name_sizes() -> [usize; 4]
+    ensures { λ r. ⌜ r ≡ name-sizes ⌝ }
+{
+    SIZES
+}
+
+fn name_keys() -> [u64; 4]
+    ensures { λ r. ⌜ r ≡ name-keys ⌝ }
+{
+    KEYS
+}
+
+// The number of the notation with that name, or 0, which no notation has.
+pub fn notation_named(name: &[u8]) -> u32
+    ensures { λ r. ⌜ r ≡ notation-named (now (name .entry)) ⌝ }
+{
+    let size = name.len();
+    if 8 < size {
+        return 0;
+    }
+    let number = key(name, 0, size);
+    let sizes = name_sizes();
+    let keys = name_keys();
+    let mut i: u32 = 0;
+    while i < NOTATIONS {
+        let at = i as usize;
+        if same_symbol(size, number, sizes[at], keys[at]) {
+            return i + 1;
+        }
+        i += 1;
+    }
+    0
+}

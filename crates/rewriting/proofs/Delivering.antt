@@ -27,9 +27,9 @@ use Rattle.reading.specs.declared.read.Answer.{Answer}
 use Rattle.reading.specs.Views.{reading-in}
 use Rattle.reading.specs.Answers.{Reads}
 use Rattle.rewriting.specs.declared.rewrite.Rewritten.{Rewritten}
-use Rattle.rewriting.specs.declared.style.Style.{Style}
+use Rattle.notations.specs.declared.rows.Style.{Style}
 use Rattle.rewriting.specs.Texts.{room, Holds}
-use Rattle.rewriting.specs.Styles.{style-in, StyleOf}
+use Rattle.notations.specs.Styles.{style-in, StyleOf}
 use Rattle.rewriting.specs.Units.{TermOf, AllTerms}
 use Rattle.label.specs.Writing.{fitted, rewriting-into, buffer-with}
 use Rattle.rewriting.specs.Buffers.{Answers}
@@ -140,7 +140,7 @@ module _ {n : ℕ} {s : List ℕ} {t : Lent} {x : List ℕ} {ds cs : List ℤ} {
     unfolding rewriting-into rewriting unless
     target-refused h = rw (← w .number, eq-eqb (r .number) 0 zero, h) (fitted-refusal size 1)
 
-    pub terms-are : AllTerms s t x
+    pub terms-are : AllTerms s (t .places) x
     terms-are = let v = w .within zero in record {
       few = v .few;
       terms = λ i h.
@@ -155,7 +155,7 @@ module _ {n : ℕ} {s : List ℕ} {t : Lent} {x : List ℕ} {ds cs : List ℤ} {
           };
     }
 
-    pub target-written : {y : Style} → StyleOf m y → notation m ≡ true
-        → rewriting-into size n s m ≡ fitted size (sized (label-text (style-in y) (y .notation) (r .k) (map (writable s) (terms-in s t x (count t)))))
+    pub target-written : {y : Style} {o : Option (List ℕ)} → StyleOf m y → notation m ≡ true
+        → o ≡ label-text (style-in y) (y .notation) (r .k) (map (writable s) (terms-in s t x (count t))) → rewriting-into size n s m ≡ fitted size (sized o)
     unfolding rewriting-into rewriting unless written written-by reading-in
-    target-written v h = rw (← w .number, eq-eqb (r .number) 0 zero, h, ← w .is zero, v .is, v .number)
+    target-written v h g = rw (g, ← w .number, eq-eqb (r .number) 0 zero, h, ← w .is zero, v .is, v .number)

@@ -5,7 +5,7 @@ use mathlib.Core.Path.{_≡_, refl, sym, ap, _∙_}
 use mathlib.Core.Bool.{Bool, true, false}
 use mathlib.Core.List.{List, [], _∷_, _++_}
 use lib.Dec.{eqb}
-use lib.ListN.{length, getD}
+use lib.ListN.{length, getD, length-append}
 use borrow.Author.Tests.{eq-eqb, ne-eqb}
 use Rattle.label.specs.Bytes.{same}
 use Rattle.label.specs.Ranges.{between}
@@ -30,6 +30,16 @@ letters-more zero k z h = absurd (z refl)
 letters-more (suc f) k z h =
     let e : suc f - 1 ≡ f = omega arith in
     rw (e, ne-eqb k 0 h, letters-of)
+
+-- no more letters than were asked for
+pub letters-most : (n k : ℕ) → length (letters-of n k) ≤ n
+unfolding letters-of
+letters-most zero k = omega arith
+letters-most (suc n) k = go (eqb k 0) (letters-most n (k / 256))
+  where
+    go : (b : Bool) → length (letters-of n (k / 256)) ≤ n → length {A = ℕ} (elim b [ true ↦ [] | false ↦ letters-of n (k / 256) ++ (k % 256 ∷ []) ]) ≤ suc n
+    go true h = omega arith
+    go false h = rw length-append (omega (arith, h))
 
 -- COMPARED ONE BY ONE
 

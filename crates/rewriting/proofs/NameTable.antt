@@ -10,7 +10,7 @@ use lib.Dec.{T, leb, eqb, leb→le}
 use lib.IntN.{pos}
 use lib.ListN.{length, take, drop, getD, length-append, List·getD-eq-default}
 use lib.Seq.{drop-cons, drop-at, take-at}
-use borrow.Author.Tests.{ne-eqb, leb-true, leb-false}
+use borrow.Author.Tests.{eqb-true, ne-eqb, leb-true, leb-false}
 use Rattle.label.proofs.Basics.{none-some, both, T→true, same-is, and-left, and-right, all-below, at-below}
 use Rattle.label.specs.Bytes.{same}
 use Rattle.label.specs.Choice.{pick}
@@ -63,7 +63,7 @@ name-letters i =
     let w = both (same (letters-of 8 (key-of (laws.entry i .letters))) (laws.entry i .letters)) _ (entry-spelt i) in
     rw (laws.key-at i) (same-is _ _ (T→true _ (w .0)) ∙ ap (λ (x : Entry). x .letters) (entry-is i))
 
-pub name-short : (i : ℕ) → length (entry i .letters) ≤ 8
+name-short : (i : ℕ) → length (entry i .letters) ≤ 8
 unfolding spelt
 name-short i =
     let w = both (same (letters-of 8 (key-of (laws.entry i .letters))) (laws.entry i .letters)) _ (entry-spelt i) in
@@ -255,6 +255,20 @@ part-of (x ∷ xs) i j before (suc u) e h =
     rw (z, ← append-assoc before (entries-of i (x .names)) (entries-from (suc i) xs))
     (part-of xs (suc i) (j + length (x .names)) (before ++ entries-of i (x .names)) u m (omega arith))
 
+-- from row a on, n units in a row have their first names c places after their rows
+unfoldable pub in-a-row : ℕ → ℕ → ℕ → Bool
+in-a-row a n c = all-below (λ i. eqb (a + i + c) (getD first-places (a + i) 0)) n
+
+unfoldable pub rows-compute : Unit {0}
+unfolding in-a-row all-below places-from first-places columns-compute
+rows-compute = tt
+
+pub first-in-row : (a n c : ℕ) → in-a-row a n c ≡ true → (u : ℕ) → a ≤ u → u < a + n → u + c ≡ getD first-places u 0
+unfolding in-a-row
+first-in-row a n c t u h g =
+    let e : a + (u - a) ≡ u = omega arith in
+    rw e at (eqb-true (a + (u - a) + c) (getD first-places (a + (u - a)) 0) (at-below (λ i. eqb (a + i + c) (getD first-places (a + i) 0)) n t (u - a) (omega arith)))
+
 -- a row's part of the table of names
 place-at : ℕ → ℕ
 place-at u = getD first-places u 0
@@ -298,10 +312,6 @@ no-unit-names u h = record {
   part = record { forward = omega arith; within = omega arith; few = omega arith };
   are = let e : unit-at u ≡ no-unit = List·getD-eq-default units no-unit (omega (arith, units-count)) in rw e;
 }
-
-pub first-count : length first-places ≡ 62
-unfolding places-from first-places columns-compute
-first-count = refl
 
 -- PREFIXES
 

@@ -1,9 +1,9 @@
--- Units as they are written: symbols compared, and the text of a unit that is written plainly, quoted, or has no form.
-use Prim.Native.Nat.{ℕ, zero, suc, _+_, _-_, _≤_, _<_}
+-- Units as they are written: symbols compared, and the form that a unit takes: plain, quoted, or none.
+use Prim.Native.Nat.{ℕ, zero, suc, _+_, _-_, _%_, _≤_}
 use native.Mathlib.Omega.{arith}
 use mathlib.Core.Path.{_≡_, refl, sym, ap, _∙_}
-use mathlib.Core.Bool.{Bool, true, false, _&&_}
-use mathlib.Core.List.{List, [], _∷_, _++_}
+use mathlib.Core.Bool.{Bool, true, false}
+use mathlib.Core.List.{List, [], _++_, append-nil}
 use mathlib.Core.Option.{Option, none, some}
 use lib.Dec.{eqb}
 use lib.ListN.{length, getD, length-append}
@@ -14,19 +14,24 @@ use Rattle.label.specs.Choice.{pick}
 use Rattle.label.specs.Ranges.{between}
 use Rattle.label.specs.Symbols.{known, unknown, symbol}
 use Rattle.label.specs.Symbols as spec
-use Rattle.label.specs.Units.{unit-at}
+use Rattle.label.specs.Units.{Name, unit-at}
 use Rattle.label.specs.Writing.{prefix-letters, same-prefix, same-symbol, reads-as, name-in, named-text, in-quotes, unknown-text, symbol-text, both-texts}
 use Rattle.label.specs.Rows.{Style}
 use Rattle.symbols.specs.declared.Symbol.{Symbol}
 use Rattle.symbols.specs.Columns.{name-keys}
 use Rattle.symbols.specs.Views.{place, symbol-in}
 use Rattle.label.proofs.Between.{length-between}
-use Rattle.rewriting.specs.Texts.{room, formless, Holds, Writes}
+use Rattle.rewriting.specs.declared.form.Form.{Form}
+use Rattle.rewriting.specs.declared.name.NameRange.{NameRange}
+use Rattle.rewriting.specs.declared.unit.SourceTerm.{SourceTerm}
+use Rattle.rewriting.specs.Texts.{room, Holds, Writes}
 use Rattle.rewriting.specs.Letters.{letters-of}
-use Rattle.rewriting.specs.Names.{name-at, entry}
-use Rattle.rewriting.specs.Units.{PrefixCode, Lettered, plain-text, Takes}
+use Rattle.rewriting.specs.Names.{name-at, names-in, NamesOf, OwnOf}
+use Rattle.rewriting.specs.Forms.{no-form, text-by, form-text, FormIn}
+use Rattle.rewriting.specs.Units.{PrefixCode, Lettered, Owns, plain-text, PlainOf}
 use Rattle.rewriting.proofs.TextLaws.{both-start}
-use Rattle.rewriting.proofs.NameTable.{name-short, name-letters}
+use Rattle.rewriting.proofs.LetterLaws.{letters-most}
+use Rattle.rewriting.proofs.NameTable.{name-letters}
 
 -- SYMBOLS COMPARED
 
@@ -76,6 +81,9 @@ module _ (s t : List ℕ) (x y : Symbol) where
 
 -- THE TEXT OF A UNIT
 
+same-text : {a c : List ℕ} → some a ≡ some c → a ≡ c
+same-text h = cc
+
 module _ (m u : ℕ) (p : Option ℕ) where
   named-none : (o : Option (List ℕ)) → both-texts (some (prefix-letters p)) o ≡ none → named-text m p u o ≡ none
   unfolding both-texts named-text
@@ -88,72 +96,88 @@ module _ (m u : ℕ) (p : Option ℕ) where
   named-some none t b e f = absurd (none-some e)
   named-some (some l) t b e f = let q : prefix-letters p ++ l ≡ t = cc in rw (q, f)
 
-module _ (y : Style) (m : ℕ) (own s : List ℕ) (x : Symbol) (name : ℕ) (k : Takes m own x name) where
+module _ (y : Style) (m : ℕ) (own s : List ℕ) (x : Symbol) where
   abbrev unit : spec.Symbol
   unit = symbol-in s x
 
   -- no name
-  pub no-plain : plain-text s x name ≡ none → symbol-text y m own unit ≡ none
+  no-plain : plain-text m own s x ≡ none → symbol-text y m own unit ≡ none
   unfolding plain-text symbol-in symbol-text both-texts
-  no-plain e = go (x .known) refl e
+  no-plain e = go (x .known) e
     where
-      go : (b : Bool) → x .known ≡ b
-          → both-texts (some (prefix-letters (place (x .prefix)))) (pick b (name-at name) (some (between s (x .start) (x .end)))) ≡ none
+      go : (b : Bool)
+          → both-texts (some (prefix-letters (place (x .prefix)))) (pick b (name-in m own (unit-at (x .unit) .names)) (some (between s (x .start) (x .end)))) ≡ none
           → symbol-text y m own (pick b (known (place (x .prefix)) (x .unit)) (unknown (place (x .prefix)) (between s (x .start) (x .end)))) ≡ none
-      go true q e = rw (← k .takes q) (named-none m (x .unit) (place (x .prefix)) (name-at name) e)
-      go false q e = absurd (none-some (sym e))
+      go true e = named-none m (x .unit) (place (x .prefix)) (name-in m own (unit-at (x .unit) .names)) e
+      go false e = absurd (none-some (sym e))
 
-  module _ (t : List ℕ) (e : plain-text s x name ≡ some t) where
+  module _ (t : List ℕ) (e : plain-text m own s x ≡ some t) where
     known-text : x .known ≡ true → (b : Bool) → same-symbol (symbol m t) unit ≡ b → symbol-text y m own unit ≡ pick b (some t) none
     unfolding plain-text symbol-in symbol-text
     known-text q b f =
-        rw (q, ← k .takes q) (named-some m (x .unit) (place (x .prefix)) (name-at name) t b (rw q at e) (rw q at f))
+        rw q (named-some m (x .unit) (place (x .prefix)) (name-in m own (unit-at (x .unit) .names)) t b (rw q at e) (rw q at f))
 
     unknown-is : x .known ≡ false → (b : Bool) → same-symbol (symbol m t) unit ≡ b
         → symbol-text y m own unit ≡ pick b (some t) (pick (y .quotes) (some (prefix-letters (place (x .prefix)) ++ in-quotes (between s (x .start) (x .end)))) none)
     unfolding plain-text symbol-in symbol-text unknown-text reads-as both-texts
     unknown-is q b f =
-        let r : prefix-letters (place (x .prefix)) ++ between s (x .start) (x .end) ≡ t = same-some (rw q at e) in
+        let r : prefix-letters (place (x .prefix)) ++ between s (x .start) (x .end) ≡ t = same-text (rw q at e) in
         rw (q, r, rw q at f)
-      where
-        same-some : {a c : List ℕ} → some a ≡ some c → a ≡ c
-        same-some h = cc
 
-    pub written-plainly : same-symbol (symbol m t) unit ≡ true → symbol-text y m own unit ≡ some t
+    written-plainly : same-symbol (symbol m t) unit ≡ true → symbol-text y m own unit ≡ some t
     written-plainly f = go (x .known) refl
       where
         go : (b : Bool) → x .known ≡ b → symbol-text y m own unit ≡ some t
         go true q = known-text q true f
         go false q = unknown-is q true f
 
-    pub known-unread : same-symbol (symbol m t) unit ≡ false → x .known ≡ true → symbol-text y m own unit ≡ none
-    known-unread f q = known-text q false f
+-- NAMES BY THEIR PLACES
 
-    module _ (f : same-symbol (symbol m t) unit ≡ false) (q : x .known ≡ false) where
-      pub written-quoted : y .quotes ≡ true
-          → symbol-text y m own unit ≡ some (prefix-letters (place (x .prefix)) ++ in-quotes (between s (x .start) (x .end)))
-      written-quoted g = unknown-is q false f ∙ rw g
+name-some : (name : ℕ) → (name ≡ 0 → ⊥) → {ks : List ℕ} → ks ≡ name-keys → name-at name ≡ some (letters-of 8 (getD ks (name - 1) 0))
+unfolding name-at
+name-some zero h e = absurd (h refl)
+name-some (suc i) h e = let q : suc i - 1 ≡ i = omega arith in rw (e, q, name-letters i)
 
-      pub unwritten : y .quotes ≡ false → symbol-text y m own unit ≡ none
-      unwritten g = unknown-is q false f ∙ rw g
+-- THE FORM WITHOUT QUOTES
 
--- a unit without quotes is short enough for the array
-plain-short : (s : List ℕ) (x : Symbol) (name code : ℕ) → PrefixCode (x .prefix) code → Lettered s x → length s ≤ 255 → (t : List ℕ) → plain-text s x name ≡ some t → length t ≤ room
-unfolding plain-text both-texts name-at
-plain-short s x name code w v h t e = go (x .known) refl e
-  where
-    named : (i : ℕ) (t : List ℕ) → both-texts (some (prefix-letters (place (x .prefix)))) (name-at i) ≡ some t → length t ≤ room
-    named zero t e = absurd (none-some e)
-    named (suc i) t e =
-        let q : prefix-letters (place (x .prefix)) ++ entry i .letters ≡ t = cc in
-        rw (← q, length-append) (omega (arith, name-short i, w .few, w .size))
+between-empty : (s : List ℕ) (l : List ℕ) → l ++ between s 0 0 ≡ l
+between-empty s l = append-nil l
 
-    go : (b : Bool) → x .known ≡ b
-        → both-texts (some (prefix-letters (place (x .prefix)))) (pick b (name-at name) (some (between s (x .start) (x .end)))) ≡ some t → length t ≤ room
-    go true q e = named name t e
-    go false q e =
-        let r : prefix-letters (place (x .prefix)) ++ between s (x .start) (x .end) ≡ t = cc in
-        rw (← r, length-append, length-between s (x .start) (x .end) (v .within q)) (omega (arith, v .within q, w .few, w .size))
+-- the letters of an unknown unit
+pub plain-lettered : {m : ℕ} {r : SourceTerm} {code : ℕ} → PrefixCode (r .unit .prefix) code → r .unit .known ≡ false
+    → PlainOf m r (record { kind = 1; prefix = code % 65536; name = 0; start = r .unit .start; end = r .unit .end })
+unfolding form-text text-by plain-text letters-of both-texts
+plain-lettered w q = record {
+  text = λ own o s. rw (q, w .letters);
+  kind = omega arith;
+  known = λ e. absurd (false-true (sym q ∙ e));
+  unknown = λ _. record { prefix = w .letters; name = refl; start = refl; end = refl };
+}
+
+-- a known unit and the name that it takes
+module _ (m : ℕ) (r : SourceTerm) {x : NameRange} (name : ℕ) (q : r .unit .known ≡ true) (n : NamesOf (r .unit .unit) x)
+    (f : (l : List ℕ) → OwnOf l (r .own) → name-at name ≡ name-in m l (names-in x)) where
+  takes : (own : List ℕ) → Owns own r → name-in m own (unit-at (r .unit .unit) .names) ≡ name-at name
+  takes own o = sym (f own (o .owns q) ∙ ap (λ (xs : List Name). name-in m own xs) (n .are))
+
+  pub plain-unnamed : name ≡ 0 → PlainOf m r no-form
+  unfolding form-text text-by plain-text both-texts name-at
+  plain-unnamed z = record {
+    text = λ own o s. rw (q, takes own o, z);
+    kind = omega arith;
+    known = λ _. (refl, refl);
+    unknown = λ e. absurd (false-true (sym e ∙ q));
+  }
+
+  pub plain-named : {code : ℕ} {ks : List ℕ} → PrefixCode (r .unit .prefix) code → (name ≡ 0 → ⊥) → ks ≡ name-keys
+      → PlainOf m r (record { kind = 1; prefix = code % 65536; name = getD ks (name - 1) 0; start = 0; end = 0 })
+  unfolding form-text text-by plain-text both-texts
+  plain-named {ks = ks} w h e = record {
+    text = λ own o s. rw (q, takes own o, name-some name h e, w .letters, between-empty s (letters-of 8 (getD ks (name - 1) 0)));
+    kind = omega arith;
+    known = λ _. (refl, refl);
+    unknown = λ z. absurd (false-true (sym z ∙ q));
+  }
 
 -- what the array holds of a unit without quotes
 pub record Plain (b : List ℕ) (end : ℕ) (o : Option (List ℕ)) : Type 0 where
@@ -162,54 +186,77 @@ pub record Plain (b : List ℕ) (end : ℕ) (o : Option (List ℕ)) : Type 0 whe
   pub held : between b 0 end ≡ text
   pub within : end ≤ length b
 
-module _ {s z b : List ℕ} {x : Symbol} (name : ℕ) {code end : ℕ} (w : PrefixCode (x .prefix) code) (v : Lettered s x) (h : length s ≤ 255)
-    (d : Writes z 0 (plain-text s x name) b end) where
-  holds : Holds b end (plain-text s x name)
-  holds = rw (both-start (plain-text s x name)) at (d .adds (some []) (Holds.short [] refl refl (omega arith) refl))
-
-  pub plain-none : room < end → plain-text s x name ≡ none
-  plain-none g = go holds
+module _ {m : ℕ} {s : List ℕ} {r : SourceTerm} {f : Form} (w : PlainOf m r f) (v : Lettered s (r .unit)) where
+  pub plain-in : FormIn s f
+  plain-in = go (r .unit .known) refl
     where
-      go : Holds b end (plain-text s x name) → plain-text s x name ≡ none
-      go (Holds.short t e n k q) = absurd (omega arith)
-      go (Holds.long t e n k) = absurd (omega (arith, plain-short s x name code w v h t e))
-      go (Holds.nothing e k) = e
+      go : (b : Bool) → r .unit .known ≡ b → FormIn s f
+      go true q = record { forward = omega (arith, w .known q .0); within = omega (arith, w .known q .1) }
+      go false q = let u = w .unknown q in record { forward = omega (arith, u .start, u .end, v .forward q); within = omega (arith, u .end, v .within q) }
 
-  pub plain-some : end ≤ room → Plain b end (plain-text s x name)
-  plain-some g = go holds
+  -- it is short enough for the array
+  plain-short : length s ≤ 255 → length (letters-of 2 (f .prefix) ++ (letters-of 8 (f .name) ++ between s (f .start) (f .end))) ≤ room
+  unfolding letters-of
+  plain-short h = go (r .unit .known) refl
     where
-      go : Holds b end (plain-text s x name) → Plain b end (plain-text s x name)
-      go (Holds.short t e n k q) = let f : end - 0 ≡ end = omega arith in record { text = t; is = e; held = rw f q; within = omega (arith, d .kept) }
-      go (Holds.long t e n k) = absurd (omega arith)
-      go (Holds.nothing e k) = absurd (omega arith)
+      part : length (between s (f .start) (f .end)) ≡ f .end - f .start
+      part = length-between s (f .start) (f .end) (plain-in .within)
 
--- the target's reading of the unit without quotes is compared with the unit
-module _ (m : ℕ) (s b : List ℕ) (x z : Symbol) (end name : ℕ) (q : Plain b end (plain-text s x name))
-    (j : symbol-in b z ≡ symbol m (between b 0 end)) {r : Bool} (i : r ≡ same-symbol (symbol-in b z) (symbol-in s x)) where
-  compared : same-symbol (symbol m (q .text)) (symbol-in s x) ≡ r
-  compared = sym (i ∙ rw (j, q .held))
+      go : (b : Bool) → r .unit .known ≡ b → length (letters-of 2 (f .prefix) ++ (letters-of 8 (f .name) ++ between s (f .start) (f .end))) ≤ room
+      go true q =
+          rw (length-append, length-append) (omega (arith, letters-most 2 (f .prefix), letters-most 8 (f .name), part, w .known q .0, w .known q .1))
+      go false q = rw (length-append, length-append, w .unknown q .name) (omega (arith, letters-most 2 (f .prefix), part, plain-in .within))
 
-  module _ (own : List ℕ) (k : Takes m own x name) (y : Style) where
-    pub reads-plain : r ≡ true → symbol-text y m own (symbol-in s x) ≡ some (between b 0 end)
-    reads-plain e = written-plainly y m own s x name k (q .text) (q .is) (compared ∙ e) ∙ ap (λ (l : List ℕ). some l) (sym (q .held))
+  -- it has one
+  plain-some : (f .kind ≡ 0 → ⊥) → form-text s f ≡ some (letters-of 2 (f .prefix) ++ (letters-of 8 (f .name) ++ between s (f .start) (f .end)))
+  unfolding form-text text-by
+  plain-some k = let e : f .kind ≡ 1 = omega (arith, w .kind) in rw e
 
-    pub reads-other : r ≡ false → x .known ≡ true → symbol-text y m own (symbol-in s x) ≡ none
-    reads-other e f = known-unread y m own s x name k (q .text) (q .is) (compared ∙ e) f
+  pub plain-held : length s ≤ 255 → (f .kind ≡ 0 → ⊥) → {z b : List ℕ} {end : ℕ} → Writes z 0 (form-text s f) b end → Plain b end (form-text s f)
+  plain-held h k {b = b} {end = end} d = go (rw (both-start (form-text s f)) at (d .adds (some []) (Holds.short [] refl refl (omega arith) refl)))
+    where
+      go : Holds b end (form-text s f) → Plain b end (form-text s f)
+      go (Holds.short t e n l g) = let u : end - 0 ≡ end = omega arith in record { text = t; is = e; held = rw u g; within = omega (arith, d .kept) }
+      go (Holds.long t e n l) = absurd (omega (arith, plain-short h, ap length (same-text (sym e ∙ plain-some k))))
+      go (Holds.nothing e l) = absurd (none-some (sym e ∙ plain-some k))
 
-    pub reads-quoted : r ≡ false → x .known ≡ false → y .quotes ≡ true
-        → symbol-text y m own (symbol-in s x) ≡ some (prefix-letters (place (x .prefix)) ++ in-quotes (between s (x .start) (x .end)))
-    reads-quoted e f g = written-quoted y m own s x name k (q .text) (q .is) (compared ∙ e) f g
+  module _ (y : Style) (own : List ℕ) (o : Owns own r) where
+    abbrev target-text : Option (List ℕ)
+    target-text = symbol-text y m own (symbol-in s (r .unit))
 
-    pub reads-not : r ≡ false → x .known ≡ false → y .quotes ≡ false → symbol-text y m own (symbol-in s x) ≡ none
-    reads-not e f g = unwritten y m own s x name k (q .text) (q .is) (compared ∙ e) f g
+    -- no name
+    pub unnamed-plain : f .kind ≡ 0 → form-text s f ≡ target-text
+    unfolding form-text text-by
+    unnamed-plain k =
+        let e : form-text s f ≡ none = rw k in
+        e ∙ sym (no-plain y m own s (r .unit) (sym (w .text own o s) ∙ e))
 
--- NAMES BY THEIR PLACES
+    -- the target's reading of the unit without quotes is compared with the unit
+    module _ {b : List ℕ} {end : ℕ} (q : Plain b end (form-text s f)) (x : Symbol) (j : symbol-in b x ≡ symbol m (between b 0 end))
+        {c : Bool} (i : c ≡ same-symbol (symbol-in b x) (symbol-in s (r .unit))) where
+      compared : same-symbol (symbol m (q .text)) (symbol-in s (r .unit)) ≡ c
+      compared = sym (i ∙ rw (j, q .held))
 
-pub name-none : (name : ℕ) → name ≡ 0 → name-at name ≡ none
-unfolding name-at
-name-none name e = rw e
+      here : plain-text m own s (r .unit) ≡ some (q .text)
+      here = sym (w .text own o s) ∙ q .is
 
-pub name-some : (name : ℕ) → (name ≡ 0 → ⊥) → {ks : List ℕ} → ks ≡ name-keys → name-at name ≡ some (letters-of 8 (getD ks (name - 1) 0))
-unfolding name-at
-name-some zero h e = absurd (h refl)
-name-some (suc i) h e = let q : suc i - 1 ≡ i = omega arith in rw (e, q, name-letters i)
+      pub reads-plain : c ≡ true → form-text s f ≡ target-text
+      reads-plain e = q .is ∙ sym (written-plainly y m own s (r .unit) (q .text) here (compared ∙ e))
+
+      pub reads-other : c ≡ false → r .unit .known ≡ true → form-text s no-form ≡ target-text
+      unfolding form-text text-by
+      reads-other e k = sym (known-text y m own s (r .unit) (q .text) here k false (compared ∙ e))
+
+      module _ (e : c ≡ false) (k : r .unit .known ≡ false) where
+        pub reads-quoted : y .quotes ≡ true → form-text s (record { kind = 2; prefix = f .prefix; name = f .name; start = f .start; end = f .end }) ≡ target-text
+        unfolding form-text text-by letters-of
+        reads-quoted g =
+            let u = w .unknown k in
+            rw (u .prefix, u .name, u .start, u .end) (sym (unknown-is y m own s (r .unit) (q .text) here k false (compared ∙ e) ∙ rw g))
+
+        pub reads-not : y .quotes ≡ false → form-text s no-form ≡ target-text
+        unfolding form-text text-by
+        reads-not g = sym (unknown-is y m own s (r .unit) (q .text) here k false (compared ∙ e) ∙ rw g)
+
+pub no-form-in : (s : List ℕ) → FormIn s no-form
+no-form-in s = record { forward = omega arith; within = omega arith }

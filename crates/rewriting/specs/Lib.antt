@@ -1,6 +1,6 @@
 pub mod Texts
-pub mod Styles
 pub mod Letters
 pub mod Names
+pub mod Forms
 pub mod Units
 pub mod Buffers

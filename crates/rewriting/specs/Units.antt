@@ -1,25 +1,24 @@
--- Units of a label as they are written.
+-- Units of a label, and the forms that they take.
 use Prim.Native.Nat.{ℕ, _+_, _/_, _%_, _≤_, _<_}
 use mathlib.Core.Path.{_≡_}
 use mathlib.Core.Bool.{true, false}
-use mathlib.Core.List.{List, [], _∷_}
+use mathlib.Core.List.{List}
 use mathlib.Core.Option.{Option, some}
 use lib.ListN.{length, getD}
 use Rattle.label.specs.Choice.{pick}
 use Rattle.label.specs.Ranges.{between}
 use Rattle.label.specs.Limits.{most-bytes, most-terms}
 use Rattle.label.specs.Units.{unit-at}
-use Rattle.label.specs.Reading as reading
-use Rattle.label.specs.Agreement.{bytes-at}
-use Rattle.label.specs.Writing.{Writable, prefix-letters, name-in, both-texts, unit-text, more-text, own-letters}
+use Rattle.label.specs.Writing.{prefix-letters, name-in, symbol-text, both-texts, own-letters}
 use Rattle.label.specs.Rows.{Style}
 use Rattle.symbols.specs.declared.Symbol.{Symbol}
 use Rattle.symbols.specs.Views.{place, symbol-in}
 use Rattle.content.specs.Views.{symbol-at}
-use Rattle.descent.specs.Terms.{Lent, count}
-use Rattle.rewriting.specs.declared.whole.SourceTerm.{SourceTerm}
+use Rattle.rewriting.specs.declared.form.Form.{Form}
+use Rattle.rewriting.specs.declared.unit.SourceTerm.{SourceTerm}
 use Rattle.rewriting.specs.Letters.{letters-of}
-use Rattle.rewriting.specs.Names.{name-at, OwnOf}
+use Rattle.rewriting.specs.Names.{OwnOf}
+use Rattle.rewriting.specs.Forms.{form-text, form-count, form-at, FormIn}
 
 -- the code of a prefix: how many letters it has, and below that their key
 pub record PrefixCode (prefix code : ℕ) : Type 0 where
@@ -32,13 +31,28 @@ pub record Lettered (s : List ℕ) (x : Symbol) : Type 0 where
   pub forward : x .known ≡ false → x .start ≤ x .end
   pub within : x .known ≡ false → x .end ≤ length s
 
--- a unit without quotes: a prefix, and the name of that place or the letters of an unknown unit
-unfoldable pub plain-text : List ℕ → Symbol → ℕ → Option (List ℕ)
-plain-text s x name = both-texts (some (prefix-letters (place (x .prefix)))) (pick (x .known) (name-at name) (some (between s (x .start) (x .end))))
+-- the letters own are those of the name that a term's known unit has in the source
+pub record Owns (own : List ℕ) (r : SourceTerm) : Type 0 where
+  pub owns : r .unit .known ≡ true → OwnOf own (r .own)
 
--- the name of that place is the one that a known unit, whose name in the source has the letters own, takes in notation m
-pub record Takes (m : ℕ) (own : List ℕ) (x : Symbol) (name : ℕ) : Type 0 where
-  pub takes : x .known ≡ true → name-at name ≡ name-in m own (unit-at (x .unit) .names)
+-- a unit of the label s without quotes in notation m: its prefix, and the name that it takes there, or the letters of an unknown unit
+unfoldable pub plain-text : ℕ → List ℕ → List ℕ → Symbol → Option (List ℕ)
+plain-text m own s x =
+    both-texts (some (prefix-letters (place (x .prefix)))) (pick (x .known) (name-in m own (unit-at (x .unit) .names)) (some (between s (x .start) (x .end))))
+
+-- f has the prefix and the letters of the unknown unit x
+pub record LetteredForm (x : Symbol) (f : Form) : Type 0 where
+  pub prefix : letters-of 2 (f .prefix) ≡ prefix-letters (place (x .prefix))
+  pub name : f .name ≡ 0
+  pub start : f .start ≡ x .start
+  pub end : f .end ≡ x .end
+
+-- f is the form of a term's unit without quotes in notation m
+pub record PlainOf (m : ℕ) (r : SourceTerm) (f : Form) : Type 0 where
+  pub text : (own : List ℕ) → Owns own r → (s : List ℕ) → form-text s f ≡ plain-text m own s (r .unit)
+  pub kind : f .kind ≤ 1
+  pub known : r .unit .known ≡ true → (f .start ≡ 0) × (f .end ≡ 0)
+  pub unknown : r .unit .known ≡ false → LetteredForm (r .unit) f
 
 -- what the array x of names has of the spelling of term i
 pub record SymbolAt (x : List ℕ) (i : ℕ) (r : Symbol) : Type 0 where
@@ -48,27 +62,36 @@ pub record SymbolAt (x : List ℕ) (i : ℕ) (r : Symbol) : Type 0 where
   pub end : r .end ≡ getD x (96 + i) 0
 
 -- term i of a label of at most 255 bytes: its spelling lies in the label, and so do the letters of an unknown unit
-pub record TermOf (s : List ℕ) (t : Lent) (x : List ℕ) (i : ℕ) : Type 0 where
+pub record TermOf (s p x : List ℕ) (i : ℕ) : Type 0 where
   pub short : length s ≤ most-bytes
   pub few : i < most-terms
-  pub forward : getD (t .places) i 0 ≤ getD (t .places) (32 + i) 0
-  pub within : getD (t .places) (32 + i) 0 ≤ length s
+  pub forward : getD p i 0 ≤ getD p (32 + i) 0
+  pub within : getD p (32 + i) 0 ≤ length s
   pub from : getD x (32 + i) 0 ≡ 0 → getD x (64 + i) 0 ≤ getD x (96 + i) 0
   pub upto : getD x (32 + i) 0 ≡ 0 → getD x (96 + i) 0 ≤ length s
 
 -- every term of a label
-pub record AllTerms (s : List ℕ) (t : Lent) (x : List ℕ) : Type 0 where
-  pub few : count t ≤ most-terms
-  pub terms : (i : ℕ) → i < count t → TermOf s t x i
+pub record AllTerms (s p x : List ℕ) : Type 0 where
+  pub few : getD p 64 0 ≤ most-terms
+  pub terms : (i : ℕ) → i < getD p 64 0 → TermOf s p x i
 
--- the term r of the label s stands for t
-pub record TermIs (s : List ℕ) (t : reading.Term) (r : SourceTerm) : Type 0 where
-  pub unit : symbol-in s (r .unit) ≡ t .symbol
+-- the letters of the name of term i
+abbrev pub own-at : List ℕ → List ℕ → List ℕ → ℕ → List ℕ
+own-at s p x i = own-letters (symbol-at s x i) (between s (getD p i 0) (getD p (32 + i) 0))
+
+-- r is term i of the label s
+pub record TermIs (s p x : List ℕ) (i : ℕ) (r : SourceTerm) : Type 0 where
+  pub unit : symbol-in s (r .unit) ≡ symbol-at s x i
   pub lettered : Lettered s (r .unit)
-  pub own : r .unit .known ≡ true → OwnOf (own-letters (t .symbol) (bytes-at s t)) (r .own)
-  pub exponent : r .exponent ≡ t .exponent
+  pub own : Owns (own-at s p x i) r
 
--- what label-text has after the factor
-unfoldable pub terms-text : Style → ℕ → List Writable → Option (List ℕ)
-terms-text y m [] = some []
-terms-text y m (w ∷ ws) = both-texts (unit-text y m w) (more-text y m ws)
+-- f is the form that the unit of term i takes in notation m
+pub record FormOf (y : Style) (m : ℕ) (s p x : List ℕ) (i : ℕ) (f : Form) : Type 0 where
+  pub is : form-text s f ≡ symbol-text y m (own-at s p x i) (symbol-at s x i)
+  pub inside : FormIn s f
+
+-- the array z has the form of every term
+pub record Chosen (y : Style) (m : ℕ) (s p x z : List ℕ) : Type 0 where
+  pub counted : form-count z ≡ getD p 64 0
+  pub few : form-count z ≤ most-terms
+  pub forms : (i : ℕ) → i < getD p 64 0 → FormOf y m s p x i (form-at z i)

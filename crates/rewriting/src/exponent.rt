@@ -3,10 +3,10 @@ use crate::numbers::is_negative;
 use crate::numbers::magnitude;
 use crate::numbers::push_figures;
 use crate::numbers::push_sign;
-use crate::style::Style;
 use crate::text::push;
 use crate::text::push_stars;
 use label::Exponent;
+use notations::rows::Style;
 ghost use Prim.Native.Nat.{_≤_, _^_};
 ghost use mathlib.Core.Path.{_≡_};
 ghost use mathlib.Core.Bool.{false, _&&_};
@@ -19,7 +19,7 @@ ghost use Rattle.label.specs.Choice.{pick};
 ghost use Rattle.label.specs.Limits.{denominator-of};
 ghost use Rattle.label.specs.Writing.{figures, sign, whole-text, fraction-text, power-text, exponent-text};
 ghost use Rattle.rewriting.specs.Texts.{room, Writes};
-ghost use Rattle.rewriting.specs.Styles.{style-in};
+ghost use Rattle.notations.specs.Styles.{style-in};
 
 // The denominator in lowest terms of so many sixtieths: the first divisor of 60 that makes a whole number of them.
 fn denominator(sixtieths: u64) -> u64

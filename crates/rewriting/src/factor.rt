@@ -3,10 +3,10 @@ use crate::numbers::is_negative;
 use crate::numbers::magnitude;
 use crate::numbers::push_figures;
 use crate::numbers::push_sign;
-use crate::style::Style;
 use crate::text::push;
 use crate::text::push_stars;
 use label::Tens;
+use notations::rows::Style;
 ghost use mathlib.Core.Path.{_≡_};
 ghost use mathlib.Core.Option.{some};
 ghost use lib.ListN.{length};
@@ -14,7 +14,7 @@ ghost use Rattle.label.specs.Bytes.{bytes};
 ghost use Rattle.label.specs.Choice.{pick};
 ghost use Rattle.label.specs.Writing.{factor-text};
 ghost use Rattle.rewriting.specs.Texts.{room, Writes};
-ghost use Rattle.rewriting.specs.Styles.{style-in};
+ghost use Rattle.notations.specs.Styles.{style-in};
 
 // Writes a space, or nothing.
 fn push_gap(text: &mut [u8; 260], at: usize, gap: bool) -> usize

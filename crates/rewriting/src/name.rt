@@ -27,97 +27,31 @@ pub struct Own {
     pub number: u64,
 }
 
-// The place of each unit's first name in the table of names, and where the last unit's names end.
-const FIRSTS: [u8; 62] = [
-    0, // m
-    1, // g
-    2, // s
-    3, // A
-    4, // K
-    5, // mol
-    6, // cd
-    7, // rad
-    8, // sr
-    9, // Hz
-    10, // N
-    11, // Pa
-    12, // J
-    13, // W
-    14, // C
-    15, // V
-    16, // S
-    17, // F
-    18, // Wb
-    19, // T
-    20, // H
-    21, // lm
-    22, // lx
-    23, // min
-    24, // h
-    25, // d
-    26, // yr, a
-    28, // deg
-    29, // arcmin
-    30, // arcsec
-    31, // AU
-    32, // pc
-    33, // eV
-    34, // Jy
-    35, // barn
-    36, // mag
-    37, // byte
-    38, // mas
-    39, // pixel, pix
-    41, // count, ct
-    43, // Ry
-    44, // solMass
-    45, // solLum
-    46, // solRad
-    47, // D
-    48, // Sun
-    49, // bit
-    50, // ohm, Ohm
-    52, // erg
-    53, // G
-    54, // lyr
-    55, // photon, ph
-    57, // chan
-    58, // bin
-    59, // voxel
-    60, // u
-    61, // R
-    62, // adu
-    63, // beam
-    64, // angstrom, Angstrom
-    66, // %
-    67,
-];
-
-pub fn firsts() -> [u8; 62]
-    ensures { λ r. ⌜ r ≡ first-places ⌝ }
+// The place of a unit's first name in the table of names; 61 is past the last unit. Each unit before it with two names counts one more.
+fn first_name(unit: u8) -> u8
+    requires { ⌜ unit < 62 ⌝ }
+    ensures { λ r. ⌜ r ≡ getD first-places unit 0 ⌝ }
 {
-    FIRSTS
-}
-
-// The number at `i`.
-fn first_at(firsts: &[u8], i: usize) -> u8
-    requires { ⌜ (now firsts ≡ first-places) × (i < 62) ⌝ }
-    ensures { λ r. ⌜ r ≡ getD first-places i 0 ⌝ }
-{
-    firsts[i]
+    match unit {
+        0..=26 => unit,
+        27..=38 => unit + 1, // after yr, a
+        39 => unit + 2, // after pixel, pix
+        40..=47 => unit + 3, // after count, ct
+        48..=51 => unit + 4, // after ohm, Ohm
+        52..=59 => unit + 5, // after photon, ph
+        _ => unit + 6, // after angstrom, Angstrom
+    }
 }
 
 // The names of the unit of that row.
-pub fn names_of(firsts: &[u8], unit: u8) -> NameRange
-    requires { ⌜ now firsts ≡ first-places ⌝ }
+pub fn names_of(unit: u8) -> NameRange
     ensures { λ r. ⌜ NamesOf unit r ⌝ }
 {
-    let i = unit as usize;
-    if 60 < i {
+    if 60 < unit {
         return NameRange { first: 0, end: 0 };
     }
-    let first = first_at(firsts, i) as usize;
-    let end = first_at(firsts, i + 1) as usize;
+    let first = first_name(unit) as usize;
+    let end = first_name(unit + 1) as usize;
     NameRange { first, end }
 }
 

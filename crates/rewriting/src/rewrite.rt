@@ -1,7 +1,8 @@
 // What rewriting a label answers, and what the lent buffer holds then.
-use crate::style::style_of;
+use crate::source::choose;
 use crate::whole::push_label;
-use checks::notation::is_notation;
+use notations::rows::is_notation;
+use notations::rows::style_of;
 use reading::read::read;
 ghost use mathlib.Core.Path.{_≡_};
 ghost use mathlib.Core.List.{List};
@@ -74,15 +75,10 @@ pub fn rewrite(n: u32, s: &[u8], m: u32, buffer: &mut [u8]) -> Rewritten
             length: 0,
         };
     }
+    let style = style_of(m as u8);
+    let mut forms: [u64; 161] = [0; 161];
+    choose(style, s, &places, &names, &mut forms);
     let mut text: [u8; 260] = [0; 260];
-    let end = push_label(
-        &mut text,
-        style_of(m as u8),
-        s,
-        a.k,
-        &places,
-        &exponents,
-        &names,
-    );
+    let end = push_label(&mut text, style, s, a.k, &forms, &exponents);
     deliver(&text, end, buffer)
 }

@@ -1,26 +1,34 @@
-// A unit as it is written: its prefix and its name.
-use crate::letters::push_key;
+// The form that a unit takes in the target.
+use crate::form::Form;
+use crate::form::NO_FORM;
+use crate::form::PLAIN;
+use crate::form::QUOTED;
+use crate::form::push_form;
 use crate::letters::same_letters;
-use crate::style::Style;
-use crate::text::append;
-use crate::text::push;
+use crate::name::Own;
+use crate::name::name_in;
+use crate::name::names_of;
+use notations::rows::Style;
 use symbols::Span;
 use symbols::Symbol;
 use symbols::lookup::symbol;
 ghost use Prim.Native.Nat.{ℕ, _≤_};
 ghost use mathlib.Core.Path.{_≡_};
-ghost use mathlib.Core.List.{List, _++_};
-ghost use mathlib.Core.Option.{some};
+ghost use mathlib.Core.List.{List};
 ghost use lib.ListN.{length};
 ghost use Rattle.label.specs.Limits.{most-bytes};
-ghost use Rattle.label.specs.Ranges.{between};
-ghost use Rattle.label.specs.Writing.{prefix-letters, same-symbol, in-quotes, symbol-text};
-ghost use Rattle.symbols.specs.Columns.{name-keys, prefix-codes, NameColumns};
-ghost use Rattle.symbols.specs.Views.{place, symbol-in};
-ghost use Rattle.rewriting.specs.Texts.{room, Writes};
-ghost use Rattle.rewriting.specs.Styles.{style-in};
-ghost use Rattle.rewriting.specs.Names.{most-names, name-at};
-ghost use Rattle.rewriting.specs.Units.{PrefixCode, Lettered, plain-text, Takes};
+ghost use Rattle.label.specs.Writing.{same-symbol, symbol-text};
+ghost use Rattle.symbols.specs.Columns.{prefix-codes, NameColumns};
+ghost use Rattle.symbols.specs.Views.{symbol-in};
+ghost use Rattle.notations.specs.Styles.{style-in};
+ghost use Rattle.rewriting.specs.Forms.{form-text, FormIn, no-form};
+ghost use Rattle.rewriting.specs.Units.{PrefixCode, Lettered, Owns, PlainOf};
+
+// A term of the source: its unit, and the letters of its name.
+pub struct SourceTerm {
+    pub unit: Symbol,
+    pub own: Own,
+}
 
 // The code of a prefix, 0 without one.
 pub fn prefix_code(prefixes: &[u32], prefix: u8) -> u32
@@ -35,25 +43,6 @@ pub fn prefix_code(prefixes: &[u32], prefix: u8) -> u32
         return prefixes[i];
     }
     0
-}
-
-// Writes the letters of a prefix of that code.
-fn push_prefix(text: &mut [u8; 260], at: usize, prefix: u8, code: u32) -> usize
-    requires { ⌜ (length (now text) ≡ room) × PrefixCode prefix code ⌝ }
-    ensures { λ r. ⌜ Writes (now (text .entry)) at (some (prefix-letters (place prefix))) (now (text .exit)) r ⌝ }
-{
-    push_key(text, at, 2, (code % 65536) as u64)
-}
-
-// Writes the name at that place of the table, counted from 1; 0 has no form.
-fn push_name(text: &mut [u8; 260], at: usize, keys: &[u64], name: usize) -> usize
-    requires { ⌜ (length (now text) ≡ room) × ((now keys ≡ name-keys) × (name ≤ most-names)) ⌝ }
-    ensures { λ r. ⌜ Writes (now (text .entry)) at (name-at name) (now (text .exit)) r ⌝ }
-{
-    if name == 0 {
-        return 262;
-    }
-    push_key(text, at, 8, keys[name - 1])
 }
 
 // Whether two symbols are the same, the one of the label `s` and the other of `t`.
@@ -76,79 +65,85 @@ fn is_same(s: &[u8], x: Symbol, t: &[u8], y: Symbol) -> bool
     same_letters(s, x.start, x.end, t, y.start, y.end)
 }
 
-// Writes a unit without quotes.
-fn push_plain(
-    text: &mut [u8; 260],
-    keys: &[u64],
-    code: u32,
-    s: &[u8],
-    x: Symbol,
-    name: usize,
-) -> usize
-    requires { ⌜ (length (now text) ≡ room) × ((now keys ≡ name-keys) × (name ≤ most-names)) ⌝ }
-    requires { ⌜ Lettered (now s) x × PrefixCode (x .prefix) code ⌝ }
-    ensures { λ r. ⌜ Writes (now (text .entry)) 0 (plain-text (now (s .entry)) x name) (now (text .exit)) r ⌝ }
+// No form.
+fn no_form() -> Form
+    ensures { λ r. ⌜ r ≡ no-form ⌝ }
 {
-    let rest = push_prefix(text, 0, x.prefix, code);
-    if x.known {
-        return push_name(text, rest, keys, name);
+    Form {
+        kind: NO_FORM,
+        prefix: 0,
+        name: 0,
+        start: 0,
+        end: 0,
     }
-    append(text, rest, s, x.start, x.end)
 }
 
-// Writes an unknown unit in quotes.
-fn push_quoted(text: &mut [u8; 260], at: usize, code: u32, s: &[u8], x: Symbol) -> usize
-    requires { ⌜ (length (now text) ≡ room) × PrefixCode (x .prefix) code ⌝ }
-    requires { ⌜ (x .start ≤ x .end) × (x .end ≤ length (now s)) ⌝ }
-    ensures { λ r. ⌜ Writes (now (text .entry)) at (some (prefix-letters (place (x .prefix)) ++ in-quotes (between (now (s .entry)) (x .start) (x .end)))) (now (text .exit)) r ⌝ }
+// The form of a unit without quotes in notation `m`: its prefix, and the name that it takes there or its letters.
+fn plain_form(keys: &[u64], codes: &[u32], prefixes: &[u32], m: u8, term: SourceTerm) -> Form
+    requires { ⌜ NameColumns (now keys) (now codes) × (now prefixes ≡ prefix-codes) ⌝ }
+    ensures { λ r. ⌜ PlainOf m term r ⌝ }
 {
-    let quote = push_prefix(text, at, x.prefix, code);
-    let first = push(text, quote, b'\'');
-    let last = append(text, first, s, x.start, x.end);
-    push(text, last, b'\'')
+    let unit = term.unit;
+    let prefix = (prefix_code(prefixes, unit.prefix) % 65536) as u64;
+    if !unit.known {
+        return Form {
+            kind: PLAIN,
+            prefix,
+            name: 0,
+            start: unit.start as u64,
+            end: unit.end as u64,
+        };
+    }
+    let name = name_in(keys, codes, m, names_of(unit.unit), term.own);
+    if name == 0 {
+        return no_form();
+    }
+    Form {
+        kind: PLAIN,
+        prefix,
+        name: keys[name - 1],
+        start: 0,
+        end: 0,
+    }
 }
 
-// Writes a unit of the label `s` so that the target reads it as the same: plainly, or quoted.
-pub fn push_symbol(
-    text: &mut [u8; 260],
-    at: usize,
+// The form of a unit of the label `s` that the target reads as the same: plain, or quoted, or none.
+pub fn form_of(
     keys: &[u64],
     codes: &[u32],
     prefixes: &[u32],
     style: Style,
     s: &[u8],
-    x: Symbol,
-    name: usize,
-) -> usize
-    requires { ⌜ length (now text) ≡ room ⌝ }
+    term: SourceTerm,
+) -> Form
     requires { ⌜ NameColumns (now keys) (now codes) × (now prefixes ≡ prefix-codes) ⌝ }
-    requires { ⌜ Lettered (now s) x × ((length (now s) ≤ most-bytes) × (name ≤ most-names)) ⌝ }
-    ensures { λ r. ⌜ ((own : List ℕ) → Takes (style .notation) own x name → Writes (now (text .entry)) at
-        (symbol-text (style-in style) (style .notation) own (symbol-in (now (s .entry)) x)) (now (text .exit)) r) ⌝ }
-    ensures { λ _. ⌜ length (now (text .exit)) ≡ room ⌝ }
+    requires { ⌜ Lettered (now s) (term .unit) × (length (now s) ≤ most-bytes) ⌝ }
+    ensures { λ r. ⌜ ((own : List ℕ) → Owns own term
+        → form-text (now (s .entry)) r ≡ symbol-text (style-in style) (style .notation) own (symbol-in (now (s .entry)) (term .unit))) ⌝ }
+    ensures { λ r. ⌜ FormIn (now (s .entry)) r ⌝ }
 {
-    let code = prefix_code(prefixes, x.prefix);
+    let m = style.notation;
+    let form = plain_form(keys, codes, prefixes, m, term);
+    if form.kind == NO_FORM {
+        return form;
+    }
     let mut plain: [u8; 260] = [0; 260];
-    let end = push_plain(&mut plain, keys, code, s, x, name);
-    if 260 < end {
-        return 262;
+    let end = push_form(&mut plain, 0, s, form);
+    let y = symbol(keys, codes, prefixes, m, &plain, Span { start: 0, end });
+    if is_same(&plain, y, s, term.unit) {
+        return form;
     }
-    let y = symbol(
-        keys,
-        codes,
-        prefixes,
-        style.notation,
-        &plain,
-        Span { start: 0, end },
-    );
-    if is_same(&plain, y, s, x) {
-        return append(text, at, &plain, 0, end);
-    }
-    if x.known {
-        return 262;
+    if term.unit.known {
+        return no_form();
     }
     if style.quotes {
-        return push_quoted(text, at, code, s, x);
+        return Form {
+            kind: QUOTED,
+            prefix: form.prefix,
+            name: form.name,
+            start: form.start,
+            end: form.end,
+        };
     }
-    262
+    no_form()
 }

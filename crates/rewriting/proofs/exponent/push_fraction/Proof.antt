@@ -1,7 +1,7 @@
 -- `rewriting::exponent::push_fraction` meets its contract.
 use borrow.Author.Needs.{needs}
 use Rattle.label.specs.Writing.{figures}
-use Rattle.rewriting.specs.Styles.{style-in}
+use Rattle.notations.specs.Styles.{style-in}
 use Rattle.rewriting.proofs.TextLaws.{writes-both}
 use Rattle.rewriting.proofs.exponent.push_fraction.Statement.{statement}
 use Rattle.rewriting.proofs.exponent.push_fraction.Tie as tie

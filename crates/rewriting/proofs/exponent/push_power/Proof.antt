@@ -1,6 +1,6 @@
 -- `rewriting::exponent::push_power` meets its contract: a fraction, no form, 1, or a whole number.
 use borrow.Author.Needs.{needs}
-use Rattle.rewriting.specs.Styles.{style-in}
+use Rattle.notations.specs.Styles.{style-in}
 use mathlib.Core.Path.{sym, _∙_}
 use Rattle.rewriting.proofs.TextLaws.{writes-nothing, writes-none, writes-as}
 use Rattle.rewriting.proofs.PowerLaws.{power-fraction, power-none, power-one, power-whole}

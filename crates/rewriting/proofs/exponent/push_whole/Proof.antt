@@ -1,6 +1,6 @@
 -- `rewriting::exponent::push_whole` meets its contract.
 use borrow.Author.Needs.{needs}
-use Rattle.rewriting.specs.Styles.{style-in}
+use Rattle.notations.specs.Styles.{style-in}
 use mathlib.Core.Path.{sym, _∙_}
 use Rattle.rewriting.proofs.TextLaws.{writes-both}
 use Rattle.rewriting.proofs.exponent.push_whole.Statement.{statement}

@@ -11,7 +11,7 @@ use Rattle.label.specs.Limits.{negative}
 use mathlib.Core.List.{List}
 use mathlib.Core.Option.{some}
 use Rattle.label.specs.Writing.{figures}
-use Rattle.rewriting.specs.Styles.{style-in}
+use Rattle.notations.specs.Styles.{style-in}
 use Rattle.rewriting.proofs.TextLaws.{writes-nothing, writes-both, writes-as}
 use Rattle.rewriting.proofs.PowerLaws.{factor-none, factor-some}
 use Rattle.rewriting.proofs.factor.push_factor.Statement.{statement}

@@ -15,4 +15,4 @@ names-of-spec =
     (λ c. search needs)
     (λ c κs. search needs)
     (λ c. search needs)
-    (λ c. unit-names _ (omega arith) _ _ (c .before .first-at .ensures) (c .first-at2 .ensures)))
+    (λ c. unit-names _ (omega arith) _ _ (c .before .first-name .ensures) (c .first-name2 .ensures)))

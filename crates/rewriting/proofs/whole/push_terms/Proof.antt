@@ -1,63 +1,50 @@
 -- `rewriting::whole::push_terms` meets its contract: the first term, and each turn of the loop one term more.
 use Prim.Native.Nat.{_-_}
 use native.Mathlib.Omega.{arith}
-use mathlib.Core.Path.{sym, ap, _∙_}
-use lib.ListN.{length}
+use mir.Facts.{toZ-ofZ}
 use borrow.Author.Needs.{needs}
-use Rattle.symbols.proofs.NameLaws.{key-column-count, code-column-count}
-use Rattle.symbols.proofs.PrefixLaws.{codes-count}
-use Rattle.rewriting.proofs.NameTable.{first-count}
-use Rattle.descent.specs.Terms.{lent}
-use Rattle.rewriting.specs.Styles.{style-in}
-use Rattle.rewriting.proofs.LabelTexts.{Termed, first-term, next-term, all-terms}
+use Rattle.notations.specs.Styles.{style-in}
+use Rattle.rewriting.proofs.FormLaws.{Termed, first-term, text-is, next-term, all-terms}
 use Rattle.rewriting.proofs.whole.push_terms.Statement.{statement}
 use Rattle.rewriting.proofs.whole.push_terms.Tie as tie
 
 abbrev Inv-loop : tie.InvT-loop
-Inv-loop text₀ at style s places exponents names keys codes prefixes firsts count place₀ i₀ text place i =
-    Termed (style-in style) (style .notation) s (lent places exponents) names text₀ place₀ text place i
+Inv-loop text₀ at style s forms exponents count place₀ i₀ text place i = Termed (style-in style) s forms exponents text₀ place₀ text place i
 
 abbrev μ-loop : tie.MeasureT-loop
-μ-loop text₀ at style s places exponents names keys codes prefixes firsts count place₀ i₀ text place i = count - i
-
-term-at-requires : tie.Need-term-at-requires Inv-loop μ-loop
-term-at-requires c κs =
-    (search needs, c .before .before .before .before .before .before .before .pre .1 .0 .terms 0 (c .before .before .before .before .before .before .before .pre .1 .1))
+μ-loop text₀ at style s forms exponents count place₀ i₀ text place i = count - i
 
 push-term-requires : tie.Need-push-term-requires Inv-loop μ-loop
 push-term-requires c κs =
-    let start = c .before .before .before .before .before .before .before .before .before .before .before .before .before in
-    (start .pre .0, ((search needs, (search needs, search needs)), (start .pre .1 .0 .terms 0 (start .pre .1 .1) .short, c .before .before .before .before .before .term-at .ensures .lettered)))
+    let start = c .before .before .before .before .before in
+    (start .pre .0 .0, rw (c .before .before .form-at .ensures) (start .pre .0 .1 .forms 0 (start .pre .1)))
 
 loop-holds : tie.Need-loop-holds Inv-loop μ-loop
-loop-holds c = first-term _ _ _ _ _ (c .before .before .before .before .before .before .before .before .before .before .before .before .before .before .pre .1 .1) (c .push-term .ensures .1)
+loop-holds c = first-term _ _ _ _ (c .before .before .before .before .before .before .pre .1) (c .push-term .ensures .kept)
 
 push-requires : tie.Need-push-requires Inv-loop μ-loop
-push-requires c κs =
-    c .before .before .loop .inv .written .kept
+push-requires c κs = c .before .before .loop .inv .written .kept
 
-term-at-requires-2 : tie.Need-term-at-requires-2 Inv-loop μ-loop
-term-at-requires-2 c κs =
-    (search needs, c .before .before .before .before .before .before .before .before .before .before .before .before .before .before .before .before .before .before .before .pre .1 .0 .terms (c .before .before .before .before .loop .i) (c .before .before .before .loop-test .taken))
+form-at-requires-2 : tie.Need-form-at-requires-2 Inv-loop μ-loop
+form-at-requires-2 c κs = omega (arith, c .before .before .loop-test .taken, c .before .before .before .before .before .before .before .before .before .before .pre .0 .1 .few)
 
 push-term-requires-2 : tie.Need-push-term-requires-2 Inv-loop μ-loop
 push-term-requires-2 c κs =
-    let tables = c .before .before .before .before .before .before .before .before .before .before .before .before .before .before .before .before .before .before .before .before in
-    let term = c .before .before .before .before .before .before .before .before .before .before .before .before .before .before .before .before .before .before .before .before .before .before .before .before .before .pre .1 .0 .terms (c .before .before .before .before .before .before .before .before .before .before .loop .i) (c .before .before .before .before .before .before .before .before .before .loop-test .taken) in (
-      c .before .before .before .before .before .before .before .push .ensures .kept,
-      (
-        (
-          record { keys-are = tables .before .before .before .name-keys .ensures; codes-are = tables .before .before .name-codes .ensures },
-          (tables .before .prefix-codes .ensures, tables .firsts .ensures),
-        ),
-        (term .short, c .before .before .before .before .before .term-at2 .ensures .lettered),
-      ),
-    )
+    (c .before .before .before .push .ensures .kept, rw (c .before .before .form-at2 .ensures) (c .before .before .before .before .before .before .before .before .before .before .before .before .before .pre .0 .1 .forms (c .before .before .before .before .before .before .loop .i) (c .before .before .before .before .before .loop-test .taken)))
 
 loop-again : tie.Need-loop-again Inv-loop μ-loop
 unfolding style-in
 loop-again c =
-    next-term (c .before .before .before .before .before .before .before .before .before .before .before .loop .inv) (c .before .before .before .before .before .before .before .before .before .before .loop-test .taken) (c .before .before .before .before .before .before .before .before .push .ensures) (c .push-term2 .ensures .0 _ (c .before .before .before .before .before .before .term-at2 .ensures))
+    let start = c .before .before .before .before .before .before .before .before .before .before .before .before .before .before in
+    let loop = c .before .before .before .before .before .before .before .loop in
+    next-term (loop .inv) (c .before .before .before .before .before .before .loop-test .taken) (c .before .before .before .before .push .ensures)
+    (text-is _ _ (start .args .forms .now) (start .args .exponents .now) (loop .i) (c .push-term2 .ensures) (c .before .before .before .form-at2 .ensures) (search (toZ-ofZ, needs)))
+
+returns : tie.Need-returns Inv-loop μ-loop
+returns c =
+    let start = c .before .before .before .before .before .before .before .before in
+    all-terms (c .before .loop .inv) (c .loop-test .left)
+    (text-is _ _ (start .args .forms .now) (start .args .exponents .now) 0 (c .before .before .push-term .ensures) (c .before .before .before .before .before .form-at .ensures) (search (toZ-ofZ, needs)))
 
 pub push-terms-spec : {M : Type 1} → statement M
 push-terms-spec =
@@ -65,28 +52,17 @@ push-terms-spec =
     (tie.spec
     Inv-loop
     μ-loop
+    (λ c. search needs)
     (λ c κs. search needs)
-    (λ c κs. search needs)
-    (λ c κs. search needs)
-    (λ c κs. search needs)
-    (λ c. search needs)
-    (λ c. search needs)
-    term-at-requires
-    (λ c. search needs)
-    (λ c. search needs)
-    (λ c. search needs)
     (λ c. search needs)
     push-term-requires
     loop-holds
     push-requires
-    (λ c. sym (codes-count (c .before .before .before .before .before .before .before .before .before .before .before .before .before .before .before .prefix-codes .ensures)))
-    term-at-requires-2
-    (λ c. sym (key-column-count (c .before .before .before .before .before .before .before .before .before .before .before .before .before .before .before .before .before .before .before .before .name-keys .ensures)))
-    (λ c. sym (code-column-count (c .before .before .before .before .before .before .before .before .before .before .before .before .before .before .before .before .before .before .before .before .name-codes .ensures)))
-    (λ c. sym (codes-count (c .before .before .before .before .before .before .before .before .before .before .before .before .before .before .before .before .before .before .before .before .prefix-codes .ensures)))
-    (λ c. sym (ap length (c .before .before .before .before .before .before .before .before .before .before .before .before .before .before .before .before .before .before .before .before .firsts .ensures) ∙ first-count))
+    form-at-requires-2
+    (λ c. search needs)
+    (λ c. search needs)
     push-term-requires-2
-    (λ c. omega (arith, c .before .before .before .before .before .before .before .before .before .before .loop-test .taken, c .before .before .before .before .before .before .before .before .before .before .before .before .before .before .before .before .before .before .before .before .before .before .before .before .before .before .pre .1 .0 .few))
-    (λ c. omega (arith, c .before .before .before .before .before .before .before .before .before .before .loop-test .taken))
+    (λ c. search needs)
+    (λ c. search needs)
     loop-again
-    (λ c. all-terms (c .before .loop .inv) (c .loop-test .left) (c .before .before .push-term .ensures .0 _ (c .before .before .before .before .before .before .before .before .term-at .ensures))))
+    returns)

@@ -1,11 +1,11 @@
--- `rewriting::whole::unit_at` meets its contract: an unknown unit and a known one.
+-- `rewriting::source::unit_at` meets its contract: an unknown unit and a known one.
 use Prim.Native.Nat.{suc}
 use native.Mathlib.Omega.{arith}
 use mathlib.Core.Path.{refl, sym, _∙_}
 use borrow.Author.Needs.{needs}
 use Rattle.rewriting.proofs.LabelTexts.{unknown-at, known-at}
-use Rattle.rewriting.proofs.whole.unit_at.Statement.{statement}
-use Rattle.rewriting.proofs.whole.unit_at.Tie as tie
+use Rattle.rewriting.proofs.source.unit_at.Statement.{statement}
+use Rattle.rewriting.proofs.source.unit_at.Tie as tie
 
 returns : tie.Need-returns
 returns c =

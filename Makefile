@@ -52,6 +52,8 @@ test: all $(TESTS)
 	@tests/stack.sh
 	@tests/guard.sh
 	@tests/lines.sh
+	@tests/make.sh
+	@tests/install.sh
 
 compare: all build/tests/print_labels build/tests/rewrite build/tests/convert
 	@tests/second.sh $(COUNT) 1 all
@@ -68,7 +70,7 @@ clean:
 
 # INSTALLING
 
-PREFIX = /usr/local
+PREFIX ?= /usr/local
 BINDIR = $(PREFIX)/bin
 INCLUDEDIR = $(PREFIX)/include
 LIBDIR = $(PREFIX)/lib

@@ -2,6 +2,7 @@
 # Installs into a temporary directory, and from there builds and runs the examples, runs the programs and the commands of the manual, and
 # uninstalls again. Nothing but the installed files is used, and nothing is left.
 set -eu
+unset MAKEFLAGS PREFIX DESTDIR PKG_CONFIG_SYSROOT_DIR
 repository=$(pwd)
 root=$(mktemp -d)
 trap 'rm -rf "$root"' EXIT

@@ -16,7 +16,7 @@ HEADERS = include/thalinguze.h $(wildcard c/*.h)
 PARTS = $(patsubst c/%.c,build/%.o,$(filter-out c/version.c,$(wildcard c/*.c)))
 TESTS = $(addprefix build/tests/,limits header advice stack guard guard-plain print_labels rewrite convert)
 
-# Three numbers of the header: 0.9.0. The shared library's soname has the first.
+# The version is the three numbers of the header. The shared library's soname has the first.
 VERSION := $(shell sed -n 's/^.define THALINGUZE_VERSION_[A-Z]* \([0-9][0-9]*\)$$/\1/p' include/thalinguze.h | paste -s -d .)
 SONAME = libthalinguze.so.$(firstword $(subst ., ,$(VERSION)))
 
@@ -114,6 +114,7 @@ $(LIBRARY): build/libface.a build/version.o
 	ar rcs $@.part build/version.o
 	mv $@.part $@
 
+# It has nothing to start, so it needs no start files.
 $(SHARED): $(LIBRARY)
 	$(CC) -shared -nostartfiles -Wl,-soname,$(SONAME) -Wl,-z,defs,-z,now,-z,relro -o $@ -Wl,--whole-archive $< -Wl,--no-whole-archive
 

@@ -43,7 +43,7 @@ extern "C" {
 #define THALINGUZE_VERSION_MINOR 9
 #define THALINGUZE_VERSION_PATCH 0
 
-/* The version as one number, 900 for 0.9.0, and as text, "0.9.0". */
+/* The version as one number, 10203 for 1.2.3, and as text, "1.2.3". */
 #define THALINGUZE_VERSION_NUMBER (THALINGUZE_VERSION_MAJOR * 10000 + THALINGUZE_VERSION_MINOR * 100 + THALINGUZE_VERSION_PATCH)
 #define THALINGUZE_DOTTED_(major, minor, patch) #major "." #minor "." #patch
 #define THALINGUZE_DOTTED(major, minor, patch) THALINGUZE_DOTTED_(major, minor, patch)

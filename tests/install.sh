@@ -26,6 +26,8 @@ number() {
 }
 version=$(number MAJOR).$(number MINOR).$(number PATCH)
 
+[ "$(grep -m 1 '^## ' docs/CHANGES.md)" = "## $version" ] || fail "docs/CHANGES.md does not begin with $version"
+
 # THE FILES
 
 make_it install

@@ -21,8 +21,15 @@ if ! command -v valgrind >/dev/null; then
     exit 0
 fi
 told 'under valgrind' watched build/tests/guard-plain "$under_valgrind"
-log=build/tests/guard.log
-watched build/label-lines <vectors/lines.in >"$log" && cmp "$log" vectors/lines.out || { echo 'label-lines under valgrind'; exit 1; }
+
+# answers OUTPUT COMMAND..: the command under valgrind answers standard input with that file
+answers() {
+    output=$1
+    shift
+    watched "$@" >build/tests/guard.out || { echo "under valgrind: $1 fails"; exit 1; }
+    cmp build/tests/guard.out "$output" || { echo "under valgrind: $1 says something else"; exit 1; }
+}
+answers vectors/lines.out build/label-lines <vectors/lines.in
 cut -d' ' -f1,2 vectors/readings.tsv >build/tests/guard.in
-watched build/thalinguze read --vectors <build/tests/guard.in >"$log" && cmp "$log" vectors/readings.tsv || { echo 'thalinguze under valgrind'; exit 1; }
+answers vectors/readings.tsv build/thalinguze read --vectors <build/tests/guard.in
 echo 'under valgrind: the lines and readings of vectors/, by the programs'

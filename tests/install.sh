@@ -51,7 +51,7 @@ if grep -r '@[A-Z]*@' "$tree/lib/pkgconfig" "$tree/share"; then
     fail 'a name is left in place of its value'
 fi
 for page in "$tree"/share/man/man*/*; do
-    head -n 1 "$page" | grep -q "\"Thalinguze $version\"" || fail "${page##*/} has another version"
+    grep -q "^\.TH .*\"Thalinguze $version\"" "$page" || fail "${page##*/} has another version"
 done
 
 # THE EXAMPLES
@@ -125,7 +125,8 @@ head -n 4 "$repository/vectors/lines.in" | "$tree/bin/label-lines" >said
 head -n 4 "$repository/vectors/lines.out" | diff said - || fail 'label-lines: other answers'
 status=0
 "$tree/bin/thalinguze" read fits kg/m.s >said || status=$?
-[ "$status" = 1 ] && grep -q '^Refused, number 4' said || fail 'thalinguze: another answer'
+[ "$status" = 1 ] || fail "thalinguze: status $status"
+grep -q '^Refused, number 4' said || fail 'thalinguze: another answer'
 
 # plain PAGE: its source without what roff needs
 plain() {

@@ -175,16 +175,31 @@ static void try_everywhere(const struct vector *v)
     }
 }
 
-static void try_file(const char *name, bool pairs)
+/* one label through each call, in its notation, with the next target */
+static void try_here(const struct vector *v)
+{
+    try_read(v);
+    try_rewrite(v, rewriting.inputs % TARGETS);
+    try_convert(v, v);
+}
+
+static void try_file(const char *name, void (*try_label)(const struct vector *))
+{
+    static struct vector v;
+    FILE *f = open_vectors(name);
+    for (; scan_vector(f, &v); skip_line(f))
+        try_label(&v);
+    fclose(f);
+}
+
+static void try_pairs(const char *name)
 {
     static struct vector a, b;
     FILE *f = open_vectors(name);
-    for (; scan_vector(f, &a); skip_line(f)) {
+    for (; scan_vector(f, &a) && scan_vector(f, &b); skip_line(f)) {
         try_everywhere(&a);
-        if (pairs && scan_vector(f, &b)) {
-            try_everywhere(&b);
-            try_convert(&a, &b);
-        }
+        try_everywhere(&b);
+        try_convert(&a, &b);
     }
     fclose(f);
 }
@@ -266,9 +281,9 @@ int main(int argc, char **argv)
     buffer_arena = make_arena(BUFFER_ROOM + 2 * GUARD);
     try_nulls();
     try_all_sizes();
-    try_file("vectors/readings.tsv", false);
-    try_file("vectors/symbols.tsv", false);
-    try_file("vectors/converts.tsv", true);
+    try_file("vectors/readings.tsv", try_everywhere);
+    try_file("vectors/symbols.tsv", try_here);
+    try_pairs("vectors/converts.tsv");
     try_lines("vectors/lines.in");
     read_vectors("vectors/readings.tsv");
     for (unsigned long i = 0; i < inputs; i++)

@@ -21,7 +21,8 @@
  *
  * prints unit 2 (gram; its prefix is THALINGUZE_PREFIX_KILO), exponent 60; unit 1 (metre), exponent -60; unit 3 (second), exponent 60.
  *
- *     gcc -I include example.c build/libthalinguze.a
+ *     gcc example.c $(pkg-config --cflags --libs thalinguze)           where the library is installed
+ *     gcc -I include example.c build/libthalinguze.a                   where it is only built
  *
  * The library allocates nothing, keeps nothing between calls and may be called from several threads at once. A call needs at most
  * 48 KB (49,152 bytes) of stack, for any notation number and any bytes. That is measured by tests/stack.c, not proved.
@@ -36,6 +37,23 @@
 #ifdef __cplusplus
 extern "C" {
 #endif
+
+/* The version. The number is written in these three lines and nowhere else. */
+#define THALINGUZE_VERSION_MAJOR 0
+#define THALINGUZE_VERSION_MINOR 9
+#define THALINGUZE_VERSION_PATCH 0
+
+/* The version as one number, 10203 for 1.2.3, and as text, "1.2.3". */
+#define THALINGUZE_VERSION_NUMBER (THALINGUZE_VERSION_MAJOR * 10000 + THALINGUZE_VERSION_MINOR * 100 + THALINGUZE_VERSION_PATCH)
+#define THALINGUZE_DOTTED_(major, minor, patch) #major "." #minor "." #patch
+#define THALINGUZE_DOTTED(major, minor, patch) THALINGUZE_DOTTED_(major, minor, patch)
+#define THALINGUZE_VERSION_STRING THALINGUZE_DOTTED(THALINGUZE_VERSION_MAJOR, THALINGUZE_VERSION_MINOR, THALINGUZE_VERSION_PATCH)
+
+/*
+ * The library's THALINGUZE_VERSION_NUMBER. A program that loads the shared library compares it with the header's, which it was compiled
+ * with. Libraries with the same major number have the same calls and records, or more of them.
+ */
+uint32_t thalinguze_version(void);
 
 /* The notations. Every other number is refused with THALINGUZE_NO_SUCH_NOTATION. */
 enum {
@@ -263,8 +281,8 @@ enum {
  * cut is not to be read. In a longer buffer the bytes past the record stay as they are.
  * Refused: no byte of the buffer changes. So look at the returned number before the record.
  *
- * label must point to label_size readable bytes and record to record_size writable bytes. Neither may be NULL, also where its size
- * is 0, and the two buffers must not overlap. They need no alignment.
+ * label must point to label_size readable bytes and record to record_size writable bytes. Either may be NULL where its size is 0, here
+ * and in the other calls. The two must not overlap. They need no alignment.
  */
 uint32_t thalinguze_read(uint32_t notation, const uint8_t *label, size_t label_size, uint8_t *record, size_t record_size);
 

@@ -17,7 +17,8 @@ static bool convert(const struct label *a, const struct label *b, size_t size, u
     uint8_t *first = lend(&first_arena, a, where), *second = lend(&second_arena, b, where), *lent = place(&record_arena, size, where, FILL);
     *number = thalinguze_convert(a->notation, first, a->size, b->notation, second, b->size, lent, size);
     size_t written = *number != 0 ? 0 : size < THALINGUZE_CONVERSION_SIZE ? size : THALINGUZE_CONVERSION_SIZE;
-    memcpy(record, lent, written);
+    if (written != 0)
+        memcpy(record, lent, written);
     return kept(&first_arena, a, first) && kept(&second_arena, b, second) && outside_kept(&record_arena, lent, written, FILL);
 }
 

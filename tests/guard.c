@@ -1,82 +1,236 @@
-/* Lends the library buffers whose bounds are watched: guard [COUNT] [FILE]. The labels are those of a file of readings and COUNT made
-   at random. Each buffer lies between guard bytes, or ends where an inaccessible page begins, or begins where one ends, so that one
-   byte out of bounds stops the program. */
+/* Lends the library buffers whose bounds are watched: guard [COUNT]. Each exported call gets the labels of vectors/, at null pointers too,
+   and COUNT inputs made at random. A call must leave every byte that is not of its result, refused calls every byte, and every size and place
+   of the lent buffer must get the same answer. */
 #define _DEFAULT_SOURCE
 #include "arena.h"
 #include "labels.h"
 
-enum { PAST = 64, RECORD_SIZES = THALINGUZE_RECORD_SIZE + PAST + 1 };
+enum { FILL = 0xAA, PAST = 64, BUFFER_ROOM = THALINGUZE_RECORD_SIZE + PAST, TARGETS = 6 };
 
-/* ONE INPUT */
+/* how many inputs a call got, and how many it accepted */
+struct tally {
+    const char *call;
+    unsigned long inputs, accepted;
+};
+static struct tally reading = {"read", 0, 0}, rewriting = {"rewritten", 0, 0}, converting = {"converted", 0, 0};
+static unsigned long lendings, wrong;
+static struct arena first_arena, second_arena, buffer_arena;
 
-static struct arena label_arena, record_arena;
-static unsigned long inputs, accepted, wrong, sizes_seen;
-static bool size_seen[RECORD_SIZES];
-
-static void fail(const char *what, uint32_t notation, const uint8_t *label, size_t size, size_t lent)
+/* every place of a label with every place of a buffer */
+static unsigned label_place(void)
 {
-    printf("%s: notation %u, record of %zu bytes, label of %zu bytes ", what, (unsigned)notation, lent, size);
-    for (size_t i = 0; i < size; i++)
-        printf("%02x", label[i]);
+    return (unsigned)(lendings / PLACES % PLACES);
+}
+
+static unsigned buffer_place(void)
+{
+    return (unsigned)(lendings % PLACES);
+}
+
+static void count(struct tally *t, bool accepted)
+{
+    t->inputs++;
+    t->accepted += accepted;
+}
+
+static void check(bool good, const struct tally *t, const struct vector *v, size_t lent)
+{
+    lendings++;
+    if (good)
+        return;
+    printf("%s wrongly: notation %u, a buffer of %zu bytes, label of %zu bytes ", t->call, (unsigned)v->notation, lent, v->size);
+    for (size_t i = 0; i < v->size; i++)
+        printf("%02x", v->label[i]);
     printf("\n");
     if (++wrong > 20)
         exit(1);
 }
 
-/* reads into a buffer of that size and compares with the whole record */
-static void lend(uint32_t notation, const uint8_t *label, size_t size, size_t lent, unsigned where, uint32_t number, const uint8_t *whole)
+static uint8_t *lend(struct arena *a, const struct vector *v)
 {
-    const uint8_t fill = 0xAA, label_fill = 0x6D;
-    uint8_t *text = place(&label_arena, size, where, label_fill), *record = place(&record_arena, lent, where, fill);
-    memcpy(text, label, size);
-    uint32_t answer = thalinguze_read(notation, text, size, record, lent);
-    size_t written = number != 0 ? 0 : lent < THALINGUZE_RECORD_SIZE ? lent : THALINGUZE_RECORD_SIZE;
-    if (answer != number)
-        fail("another answer", notation, label, size, lent);
-    if (memcmp(text, label, size) != 0 || !outside_kept(&label_arena, text, size, label_fill))
-        fail("the label changed", notation, label, size, lent);
-    if (memcmp(record, whole, written) != 0)
-        fail("the bytes written are not the record's", notation, label, size, lent);
-    if (!outside_kept(&record_arena, record, written, fill))
-        fail("a byte that is not the record's changed", notation, label, size, lent);
+    return place_copy(a, v->label, v->size, label_place(), FILL);
 }
 
-/* the whole record once, then a buffer of each kind, with the next sizes */
-static void try_label(uint32_t notation, const uint8_t *label, size_t size)
+static bool kept(const struct arena *a, const uint8_t *lent, const struct vector *v)
 {
-    uint8_t whole[THALINGUZE_RECORD_SIZE], again[THALINGUZE_RECORD_SIZE];
-    memset(whole, 0x55, sizeof whole);
-    memset(again, 0x55, sizeof again);
-    uint32_t number = thalinguze_read(notation, label, size, whole, sizeof whole);
-    if (thalinguze_read(notation, label, size, again, sizeof again) != number || memcmp(whole, again, sizeof whole) != 0)
-        fail("the same call gives another answer", notation, label, size, sizeof whole);
-    if (number > 7)
-        fail("no such refusal", notation, label, size, sizeof whole);
-    size_t lent = inputs % RECORD_SIZES;
-    unsigned where = (unsigned)(inputs / RECORD_SIZES + inputs) % PLACES;
-    lend(notation, label, size, lent, where, number, whole);
-    if (number == 0 && !size_seen[lent]) {
-        size_seen[lent] = true;
-        sizes_seen++;
-    }
-    inputs++;
-    accepted += number == 0;
+    return holds_only(a, lent, v->label, v->size, FILL);
 }
 
-/* every size of buffer, at every place, for one accepted label */
+static size_t smaller(size_t a, size_t b)
+{
+    return a < b ? a : b;
+}
+
+/* READING */
+
+static void lend_record(const struct vector *v, size_t lent, uint32_t number, const uint8_t *whole)
+{
+    uint8_t *label = lend(&first_arena, v), *record = place(&buffer_arena, lent, buffer_place(), FILL);
+    uint32_t answer = thalinguze_read(v->notation, label, v->size, record, lent);
+    size_t written = number != 0 ? 0 : smaller(lent, THALINGUZE_RECORD_SIZE);
+    check(answer == number && kept(&first_arena, label, v) && holds_only(&buffer_arena, record, whole, written, FILL), &reading, v, lent);
+}
+
+/* the whole record once, then a buffer of the next size and one at an end of the record */
+static void try_read(const struct vector *v)
+{
+    static const size_t ends[] = {0, 1, THALINGUZE_RECORD_SIZE - 1, THALINGUZE_RECORD_SIZE, THALINGUZE_RECORD_SIZE + 1};
+    uint8_t whole[THALINGUZE_RECORD_SIZE];
+    uint32_t number = thalinguze_read(v->notation, v->label, v->size, whole, sizeof whole);
+    check(number <= THALINGUZE_TOO_MANY_TERMS, &reading, v, sizeof whole);
+    lend_record(v, reading.inputs % (BUFFER_ROOM + 1), number, whole);
+    lend_record(v, ends[reading.inputs % 5], number, whole);
+    count(&reading, number == 0);
+}
+
+/* every size of buffer, at every place, for one accepted and one refused label */
 static void try_all_sizes(void)
 {
-    const char *label = "10+3kg.furlong/(m2.s)";
+    static struct vector accepted = {THALINGUZE_CDS, 21, "10+3kg.furlong/(m2.s)"}, refused = {THALINGUZE_CDS, 3, "m m"};
     uint8_t whole[THALINGUZE_RECORD_SIZE];
-    size_t size = strlen(label);
-    uint32_t number = thalinguze_read(THALINGUZE_CDS, (const uint8_t *)label, size, whole, sizeof whole);
-    for (size_t lent = 0; lent < RECORD_SIZES; lent++)
-        for (unsigned where = 0; where < PLACES; where++) {
-            lend(THALINGUZE_CDS, (const uint8_t *)label, size, lent, where, number, whole);
-            lend(THALINGUZE_CDS, (const uint8_t *)"m m", 3, lent, where, THALINGUZE_NOT_IN_GRAMMAR, whole);
+    check(thalinguze_read(accepted.notation, accepted.label, accepted.size, whole, sizeof whole) == 0, &reading, &accepted, sizeof whole);
+    for (size_t lent = 0; lent <= BUFFER_ROOM; lent++)
+        for (unsigned i = 0; i < PLACES; i++) {
+            lend_record(&accepted, lent, THALINGUZE_ACCEPTED, whole);
+            lend_record(&refused, lent, THALINGUZE_NOT_IN_GRAMMAR, whole);
         }
-    if (number != 0)
-        fail("refused", THALINGUZE_CDS, (const uint8_t *)label, size, sizeof whole);
+}
+
+/* REWRITING */
+
+static void lend_buffer(const struct vector *v, uint32_t target, size_t lent, struct thalinguze_rewritten wanted, const uint8_t *whole)
+{
+    if (wanted.number == 0 && lent < wanted.length)
+        wanted = (struct thalinguze_rewritten){THALINGUZE_BUFFER_TOO_SHORT, 0};
+    uint8_t *label = lend(&first_arena, v), *buffer = place(&buffer_arena, lent, buffer_place(), FILL);
+    struct thalinguze_rewritten answer = thalinguze_rewrite(v->notation, label, v->size, target, buffer, lent);
+    check(answer.number == wanted.number && answer.length == wanted.length && kept(&first_arena, label, v) &&
+              holds_only(&buffer_arena, buffer, whole, wanted.length, FILL), &rewriting, v, lent);
+}
+
+/* the whole result once, then no buffer, buffers about as long as the result, and one of any length */
+static void try_rewrite(const struct vector *v, uint32_t target)
+{
+    uint8_t whole[THALINGUZE_MAX_LABEL_SIZE];
+    struct thalinguze_rewritten r = thalinguze_rewrite(v->notation, v->label, v->size, target, whole, sizeof whole);
+    bool possible = r.number <= THALINGUZE_TOO_MANY_TERMS || r.number == THALINGUZE_NO_FORM || r.number == THALINGUZE_RESULT_TOO_LONG;
+    check(possible && r.length <= sizeof whole && (r.number == 0 || r.length == 0), &rewriting, v, sizeof whole);
+    lend_buffer(v, target, 0, r, whole);
+    if (r.length > 0)
+        lend_buffer(v, target, r.length - 1, r, whole);
+    lend_buffer(v, target, r.length, r, whole);
+    lend_buffer(v, target, r.length + 1, r, whole);
+    lend_buffer(v, target, rewriting.inputs % (sizeof whole + PAST), r, whole);
+    count(&rewriting, r.number == 0);
+}
+
+/* CONVERTING */
+
+static void lend_conversion(const struct vector *a, const struct vector *b, size_t lent, uint32_t number, const uint8_t *whole)
+{
+    uint8_t *first = lend(&first_arena, a), *second = lend(&second_arena, b), *record = place(&buffer_arena, lent, buffer_place(), FILL);
+    uint32_t answer = thalinguze_convert(a->notation, first, a->size, b->notation, second, b->size, record, lent);
+    size_t written = number != 0 ? 0 : smaller(lent, THALINGUZE_CONVERSION_SIZE);
+    check(answer == number && kept(&first_arena, first, a) && kept(&second_arena, second, b) &&
+              holds_only(&buffer_arena, record, whole, written, FILL), &converting, a, lent);
+}
+
+static void try_convert(const struct vector *a, const struct vector *b)
+{
+    static const size_t ends[] = {0, THALINGUZE_CONVERSION_SIZE - 1, THALINGUZE_CONVERSION_SIZE, THALINGUZE_CONVERSION_SIZE + 1};
+    uint8_t whole[THALINGUZE_CONVERSION_SIZE];
+    uint32_t number = thalinguze_convert(a->notation, a->label, a->size, b->notation, b->label, b->size, whole, sizeof whole);
+    check(number <= THALINGUZE_FACTOR_OUT_OF_BOUNDS, &converting, a, sizeof whole);
+    lend_conversion(a, b, converting.inputs % (THALINGUZE_CONVERSION_SIZE + PAST), number, whole);
+    lend_conversion(a, b, ends[converting.inputs % 4], number, whole);
+    count(&converting, number == 0);
+}
+
+/* NULL POINTERS */
+
+/* nothing but null pointers: the empty label, and a buffer without a byte */
+static void try_nulls(void)
+{
+    const struct vector empty = {.size = 0};
+    for (uint32_t source = 0; source < TARGETS; source++)
+        for (uint32_t target = 0; target < TARGETS; target++) {
+            bool from = source >= 1 && source <= 4, both = from && target >= 1 && target <= 4;
+            struct thalinguze_rewritten r = thalinguze_rewrite(source, NULL, 0, target, NULL, 0);
+            check(thalinguze_read(source, NULL, 0, NULL, 0) == (from ? 0 : 1), &reading, &empty, 0);
+            check(r.number == (both ? 0 : 1) && r.length == 0, &rewriting, &empty, 0);
+            check(thalinguze_convert(source, NULL, 0, target, NULL, 0, NULL, 0) == (both ? 0 : 1), &converting, &empty, 0);
+        }
+}
+
+/* INPUTS */
+
+/* one label through each call, in the four notations and with two numbers that are none */
+static void try_everywhere(const struct vector *v)
+{
+    struct vector other = *v;
+    for (other.notation = 0; other.notation < TARGETS; other.notation++) {
+        try_read(&other);
+        try_rewrite(v, other.notation);
+        try_convert(v, &other);
+    }
+}
+
+/* one label through each call, in its notation, with the next target */
+static void try_here(const struct vector *v)
+{
+    try_read(v);
+    try_rewrite(v, rewriting.inputs % TARGETS);
+    try_convert(v, v);
+}
+
+static void try_file(const char *name, void (*try_label)(const struct vector *))
+{
+    static struct vector v;
+    FILE *f = open_vectors(name);
+    for (; scan_vector(f, &v); skip_line(f))
+        try_label(&v);
+    fclose(f);
+}
+
+static void try_pairs(const char *name)
+{
+    static struct vector a, b;
+    FILE *f = open_vectors(name);
+    for (; scan_vector(f, &a) && scan_vector(f, &b); skip_line(f)) {
+        try_everywhere(&a);
+        try_everywhere(&b);
+        try_convert(&a, &b);
+    }
+    fclose(f);
+}
+
+/* the number of a notation's name; 0 for any other text */
+static uint32_t notation_of(const char *name)
+{
+    static const char *const names[] = {"", "fits", "ogip", "cds", "vou"};
+    for (uint32_t n = 1; n <= 4; n++)
+        if (strcmp(names[n], name) == 0)
+            return n;
+    return 0;
+}
+
+/* lines with four fields that are not empty */
+static void try_lines(const char *name)
+{
+    static char line[65536];
+    static struct vector v;
+    FILE *f = open_vectors(name);
+    while (fgets(line, sizeof line, f)) {
+        char *fields[4] = {strtok(line, "\t\n"), strtok(NULL, "\t\n"), strtok(NULL, "\t\n"), strtok(NULL, "\t\n")};
+        if (!fields[3] || strlen(fields[2]) > LABEL_ROOM)
+            continue;
+        v.notation = notation_of(fields[1]);
+        v.size = strlen(fields[2]);
+        memcpy(v.label, fields[2], v.size);
+        try_rewrite(&v, notation_of(fields[3]));
+        try_everywhere(&v);
+    }
+    fclose(f);
 }
 
 static uint32_t some_notation(void)
@@ -86,22 +240,57 @@ static uint32_t some_notation(void)
     return choice == 0 ? wild[below(9)] : choice == 1 ? (uint32_t)next_random() : 1 + below(4);
 }
 
+/* the second label of a conversion: any, or the first, or the first in another notation */
+static void make_second(const struct vector *a, struct vector *b)
+{
+    unsigned kind = below(3);
+    *b = *a;
+    if (kind == 0) {
+        b->notation = some_notation();
+        b->size = random_label(b->label, b->notation);
+    } else if (kind == 1) {
+        uint32_t target = 1 + below(4);
+        struct thalinguze_rewritten r = thalinguze_rewrite(a->notation, a->label, a->size, target, b->label, sizeof b->label);
+        b->notation = r.number == 0 ? target : a->notation;
+        b->size = r.number == 0 ? r.length : a->size;
+    }
+}
+
+static void try_random(void)
+{
+    static struct vector a, b;
+    a.notation = some_notation();
+    a.size = random_label(a.label, a.notation);
+    make_second(&a, &b);
+    try_read(&a);
+    try_rewrite(&a, some_notation());
+    try_convert(&a, &b);
+}
+
+static bool report(const struct tally *t)
+{
+    printf("%lu labels or pairs %s, %lu accepted; ", t->inputs, t->call, t->accepted);
+    return t->accepted >= t->inputs / 10;
+}
+
 int main(int argc, char **argv)
 {
-    unsigned long count = argc > 1 ? strtoul(argv[1], NULL, 10) : 100000;
-    static uint8_t label[LABEL_ROOM];
-    read_vectors(argc > 2 ? argv[2] : "vectors/readings.tsv");
-    label_arena = make_arena(LABEL_ROOM + 2 * GUARD);
-    record_arena = make_arena(RECORD_SIZES + 2 * GUARD);
-    for (unsigned i = 0; i < vector_count; i++)
-        for (uint32_t notation = 0; notation <= 5; notation++)
-            try_label(notation, vectors[i].label, vectors[i].size);
-    for (unsigned long i = 0; i < count; i++) {
-        uint32_t notation = some_notation();
-        try_label(notation, label, random_label(label, notation));
-    }
+    unsigned long inputs = argc > 1 ? strtoul(argv[1], NULL, 10) : 100000;
+    first_arena = make_arena(LABEL_ROOM + 2 * GUARD);
+    second_arena = make_arena(LABEL_ROOM + 2 * GUARD);
+    buffer_arena = make_arena(BUFFER_ROOM + 2 * GUARD);
+    try_nulls();
     try_all_sizes();
-    printf("%lu labels with watched buffers (seed %lu), %lu accepted, %lu sizes of record under accepted labels, %lu wrong\n", inputs,
-           SEED, accepted, sizes_seen, wrong);
-    return wrong != 0 || accepted < inputs / 10;
+    try_file("vectors/readings.tsv", try_everywhere);
+    try_file("vectors/symbols.tsv", try_here);
+    try_pairs("vectors/converts.tsv");
+    try_lines("vectors/lines.in");
+    read_vectors("vectors/readings.tsv");
+    for (unsigned long i = 0; i < inputs; i++)
+        try_random();
+    bool enough = report(&reading);
+    enough = report(&rewriting) && enough;
+    enough = report(&converting) && enough;
+    printf("%lu watched buffers (seed %lu), %lu wrong\n", lendings, SEED, wrong);
+    return wrong != 0 || !enough;
 }

@@ -30,17 +30,15 @@ static bool decode(struct label *l)
     return true;
 }
 
-static uint8_t *lend(const struct arena *a, const struct label *l, unsigned where)
+static uint8_t *lend(struct arena *a, const struct label *l, unsigned where)
 {
-    uint8_t *text = place(a, l->size, where, FILL);
-    memcpy(text, l->bytes, l->size);
-    return text;
+    return place_copy(a, l->bytes, l->size, where, FILL);
 }
 
 /* whether a lent label and what is around it are as they were */
 static bool kept(const struct arena *a, const struct label *l, const uint8_t *text)
 {
-    return memcmp(text, l->bytes, l->size) == 0 && outside_kept(a, text, l->size, FILL);
+    return holds_only(a, text, l->bytes, l->size, FILL);
 }
 
 #endif

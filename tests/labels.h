@@ -97,23 +97,41 @@ struct vector {
 static struct vector vectors[1000];
 static unsigned vector_count;
 
-static void read_vectors(const char *name)
+/* the next notation number and bytes in hexadecimal */
+static bool scan_vector(FILE *f, struct vector *v)
 {
-    static char line[65536], hex[4096];
+    static char hex[4096];
+    unsigned notation, byte;
+    if (fscanf(f, "%u %4095s", &notation, hex) != 2)
+        return false;
+    v->notation = notation;
+    v->size = 0;
+    for (size_t i = 0; hex[0] != '-' && sscanf(hex + i, "%2x", &byte) == 1 && v->size < LABEL_ROOM; i += 2)
+        v->label[v->size++] = (uint8_t)byte;
+    return true;
+}
+
+static void skip_line(FILE *f)
+{
+    for (int c = getc(f); c != EOF && c != '\n'; c = getc(f))
+        continue;
+}
+
+static FILE *open_vectors(const char *name)
+{
     FILE *f = fopen(name, "r");
     if (!f) {
         perror(name);
         exit(2);
     }
-    while (fgets(line, sizeof line, f) && vector_count < sizeof vectors / sizeof vectors[0]) {
-        struct vector *v = &vectors[vector_count++];
-        unsigned notation, byte;
-        if (sscanf(line, "%u %4095s", &notation, hex) != 2)
-            exit(2);
-        v->notation = notation;
-        for (size_t i = 0; hex[0] != '-' && sscanf(hex + i, "%2x", &byte) == 1 && v->size < LABEL_ROOM; i += 2)
-            v->label[v->size++] = (uint8_t)byte;
-    }
+    return f;
+}
+
+static void read_vectors(const char *name)
+{
+    FILE *f = open_vectors(name);
+    for (; vector_count < sizeof vectors / sizeof vectors[0] && scan_vector(f, &vectors[vector_count]); vector_count++)
+        skip_line(f);
     fclose(f);
     if (vector_count == 0)
         exit(2);

@@ -17,7 +17,8 @@ static bool rewrite(const struct label *l, uint32_t target, size_t size, unsigne
     *answer = thalinguze_rewrite(l->notation, label, l->size, target, buffer, size);
     if (answer->length > size || answer->length > THALINGUZE_MAX_LABEL_SIZE || (answer->number != 0 && answer->length != 0))
         return false;
-    memcpy(result, buffer, answer->length);
+    if (answer->length != 0)
+        memcpy(result, buffer, answer->length);
     return kept(&label_arena, l, label) && outside_kept(&buffer_arena, buffer, answer->length, FILL);
 }
 

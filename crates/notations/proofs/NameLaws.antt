@@ -2,10 +2,10 @@
 use Prim.Native.Nat.{ℕ, suc, _≤_, _<_, _+_, _-_}
 use native.Mathlib.Omega.{arith}
 use mathlib.Core.Path.{_≡_, refl, sym, ap, _∙_}
-use mathlib.Core.Bool.{Bool, true, false, _&&_}
+use mathlib.Core.Bool.{Bool, true, false}
 use mathlib.Core.List.{List, [], _∷_}
 use mathlib.Core.Option.{Option, none, some}
-use lib.Dec.{T, eqb, leb, ltb}
+use lib.Dec.{T, eqb}
 use lib.ListN.{length, getD, List·getD-map}
 use lib.Seq.{take-all}
 use mir.Syntax.{w8}
@@ -16,7 +16,7 @@ use Rattle.label.specs.Choice.{pick}
 use Rattle.label.specs.Ranges.{between}
 use Rattle.label.specs.Rows.{Row, named}
 use Rattle.label.specs.Lines.{no-notation, number-named, notation-named}
-use Rattle.label.proofs.Basics.{T→true, all-below, at-below}
+use Rattle.label.proofs.Basics.{all-below, at-below}
 use Rattle.symbols.specs.Keys.{most-letters, key-of, key-from, agrees}
 use Rattle.symbols.proofs.KeyLaws.{keyable, long-other, Spelled, agrees-spelled, spelled-part}
 use Rattle.symbols.proofs.RowLaws.{every, every-at, first, first-none, Sought, sought-none, sought-all, sought-hit, sought-miss}

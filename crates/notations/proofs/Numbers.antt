@@ -31,7 +31,7 @@ number-above a zero n h = refl
 number-above a (suc k) n h = rw (ne-eqb n a (λ e. omega arith)) (number-above (suc a) k n (omega arith))
 
 -- the notations have the numbers from 1 on
-abbrev last : ℕ
+abbrev pub last : ℕ
 last = length everywhere
 
 from-one : everywhere ≡ numbers 1 last

@@ -1,4 +1,4 @@
-// What each notation has, as label/specs/Rows.antt says: its rules, how it writes, and its name. A property is the set of the notations that have it.
+// What each notation has, as label/specs/Rows.antt says: its rules, how it writes, and its name.
 use label::Rules;
 use symbols::keys::has_notation;
 use symbols::keys::key;
@@ -8,7 +8,7 @@ ghost use mathlib.Core.Bool.{true};
 ghost use mathlib.Core.Option.{some};
 ghost use Rattle.label.specs.Lines.{notation-named};
 ghost use Rattle.label.specs.Notations.{notation};
-ghost use Rattle.label.specs.Rows.{rules-of};
+ghost use Rattle.label.specs.Rows.{fits-rules, ogip-rules, cds-rules, vounits-rules, rules-of};
 ghost use Rattle.notations.specs.Columns.{InSet, joints, JointOf, name-sizes, name-keys};
 ghost use Rattle.notations.specs.Styles.{StyleOf};
 
@@ -67,30 +67,117 @@ fn has(n: u8, set: u8) -> bool
     has_notation(n, set)
 }
 
-// The rules of notation `n`.
+fn fits() -> Rules
+    ensures { λ r. ⌜ r ≡ fits-rules ⌝ }
+{
+    Rules {
+        percent: false,
+        quotes: false,
+        direct: true,
+        brackets: true,
+        stars: true,
+        caret: true,
+        space: true,
+        spaces: false,
+        star: true,
+        point: true,
+        each: false,
+        within: false,
+        lead: true,
+        factor: true,
+        wrapped: true,
+        signed: true,
+        plain: false,
+    }
+}
+
+fn ogip() -> Rules
+    ensures { λ r. ⌜ r ≡ ogip-rules ⌝ }
+{
+    Rules {
+        percent: false,
+        quotes: false,
+        direct: false,
+        brackets: false,
+        stars: true,
+        caret: false,
+        space: true,
+        spaces: true,
+        star: true,
+        point: false,
+        each: true,
+        within: false,
+        lead: false,
+        factor: true,
+        wrapped: true,
+        signed: false,
+        plain: true,
+    }
+}
+
+fn cds() -> Rules
+    ensures { λ r. ⌜ r ≡ cds-rules ⌝ }
+{
+    Rules {
+        percent: true,
+        quotes: false,
+        direct: true,
+        brackets: false,
+        stars: false,
+        caret: false,
+        space: false,
+        spaces: false,
+        star: false,
+        point: true,
+        each: true,
+        within: false,
+        lead: false,
+        factor: true,
+        wrapped: false,
+        signed: true,
+        plain: true,
+    }
+}
+
+fn vounits() -> Rules
+    ensures { λ r. ⌜ r ≡ vounits-rules ⌝ }
+{
+    Rules {
+        percent: false,
+        quotes: true,
+        direct: false,
+        brackets: false,
+        stars: true,
+        caret: false,
+        space: false,
+        spaces: false,
+        star: false,
+        point: true,
+        each: false,
+        within: true,
+        lead: false,
+        factor: true,
+        wrapped: true,
+        signed: false,
+        plain: true,
+    }
+}
+
+// The rules of notation `n`. A row for each is quicker than sets: a reading asks for them once, and they are constants.
 pub fn rules(n: u8) -> Rules
     requires { ⌜ notation n ≡ true ⌝ }
     ensures { λ r. ⌜ rules-of n ≡ some r ⌝ }
 {
-    Rules {
-        percent: has(n, CDS),
-        quotes: has(n, VOUNITS),
-        direct: has(n, FITS | CDS),
-        brackets: has(n, FITS),
-        stars: has(n, FITS | OGIP | VOUNITS),
-        caret: has(n, FITS),
-        space: has(n, FITS | OGIP),
-        spaces: has(n, OGIP),
-        star: has(n, FITS | OGIP),
-        point: has(n, FITS | CDS | VOUNITS),
-        each: has(n, OGIP | CDS),
-        within: has(n, VOUNITS),
-        lead: has(n, FITS),
-        factor: has(n, FITS | OGIP | CDS | VOUNITS),
-        wrapped: has(n, FITS | OGIP | VOUNITS),
-        signed: has(n, FITS | CDS),
-        plain: has(n, OGIP | CDS | VOUNITS),
+    if n == 1 {
+        return fits();
     }
+    if n == 2 {
+        return ogip();
+    }
+    if n == 3 {
+        return cds();
+    }
+    vounits()
 }
 
 fn joints() -> [u8; 4]

@@ -1,7 +1,6 @@
 -- `notations::rows::notation_named` meets its contract: each turn of the loop is one of `NameLaws`.
 use Prim.Native.Nat.{_-_}
 use native.Mathlib.Omega.{arith}
-use mathlib.Core.Path.{_∙_}
 use Rattle.label.specs.Rows.{named}
 use Rattle.symbols.specs.Sets.{room}
 use Rattle.notations.proofs.NameLaws.{Searching, search-start, search-all, search-hit, search-miss, too-long}

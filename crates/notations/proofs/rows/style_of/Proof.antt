@@ -1,7 +1,7 @@
 -- `notations::rows::style_of` meets its contract: each property is set by the notations that have it.
-use mathlib.Core.Path.{_≡_, refl, sym, _∙_}
+use mathlib.Core.Path.{refl, sym, _∙_}
 use Rattle.label.specs.Bytes.{bytes}
-use Rattle.label.specs.Rows.{Style, styled, style-of}
+use Rattle.label.specs.Rows.{Style, styled}
 use Rattle.label.proofs.Ruled.{notation-ruled}
 use Rattle.notations.specs.Styles.{style-in}
 use Rattle.notations.proofs.RowLaws.{in-set, by-set, rows-compute}

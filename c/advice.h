@@ -2,38 +2,35 @@
 #ifndef ADVICE_H
 #define ADVICE_H
 
-#include <stdbool.h>
-#include <stddef.h>
-#include <stdint.h>
+#include "ask.h"
 
-enum { MAX_REASONS = 8, MAX_SUGGESTIONS = 2 };
+enum { MAX_SUGGESTIONS = 6 };
+
+/* How a suggestion was found, which is what it claims. */
+enum claim {
+    SAME,    /* other forms, the same spellings, exponents and power of ten */
+    NEXT,    /* so, if a slash puts only what comes straight after it below the line */
+    REST,    /* so, if it puts all that follows below */
+    ASKED,   /* as SAME, with other spellings: a question */
+    ANOTHER  /* what the label is in another notation, rewritten by the library */
+};
 
 struct advice {
-    unsigned reasons;
-    char reason[MAX_REASONS][200]; /* a sentence each */
-    unsigned suggestions;
-    struct {
-        const char *when; /* "Write", or when this is what to write */
-        char label[256];  /* accepted in the notation */
-    } suggestion[MAX_SUGGESTIONS];
+    uint32_t notation;
+    struct text plain;   /* the label without signs that no label has */
+    struct text reasons; /* a sentence on each line */
+    unsigned count;
+    struct suggestion {
+        enum claim claim;
+        uint32_t source; /* of ANOTHER */
+        char label[THALINGUZE_MAX_LABEL_SIZE + 1]; /* accepted in the notation, every unit known and every prefix lawful */
+    } list[MAX_SUGGESTIONS];
 };
 
-/* The advice on a label that is refused in a notation, 1 to 4, with a number, 3 to 7. */
-void advise(struct advice *a, uint32_t notation, const uint8_t *label, size_t size, uint32_t number);
+/* The advice on a label that a notation refuses with a number. */
+void advise(struct advice *a, uint32_t notation, const char *label, uint32_t number);
 
-/* Labels that a notation accepts, to show what its labels look like; NULL behind the last. */
-extern const char *const example_labels[5][4];
-
-/* Signs outside ASCII that people write, and labels that say the same in each notation. */
-struct foreign_sign {
-    const char *bytes;    /* in UTF-8 */
-    const char *name;
-    const char *label[5]; /* a label that has it, by notation */
-};
-extern const struct foreign_sign foreign_signs[];
-extern const size_t foreign_sign_count;
-
-/* Every label that stands in a sentence of the advice, by notation, for tests: number i, or NULL past the last. */
-const char *quoted_label(uint32_t notation, size_t i);
+/* The advice on one that it accepts: the spellings that may be meant. */
+void advise_on_spelling(struct advice *a, uint32_t notation, const char *label);
 
 #endif

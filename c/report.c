@@ -1,229 +1,152 @@
-/* A reading, accepted or refused, told to a person: one fact to a line, in words. */
-#include <stdbool.h>
+/* Readings, accepted or refused, told to a person: the answer in the first sentence, then one fact on each line. */
 #include <string.h>
 #include "advice.h"
-#include "meant.h"
 #include "report.h"
-#include "sixtieths.h"
-#include "words.h"
-
-void print_label(const uint8_t *label, size_t size)
-{
-    const size_t shown = 40;
-    size_t end = size > THALINGUZE_MAX_LABEL_SIZE ? shown : size;
-    if (size == 0)
-        printf("The empty label");
-    for (size_t i = 0; i < end; i++)
-        if (label[i] >= 0x20 && label[i] <= 0x7e)
-            putchar(label[i]);
-        else
-            printf("<%02X>", label[i]);
-    if (end < size)
-        printf(" and so on, %zu bytes,", size);
-}
+#include "say.h"
 
 /* ACCEPTED */
 
-static void print_power(int64_t exponent)
+/* adds to a list, once */
+static void add_once(struct text *list, const char *item, unsigned *count)
 {
-    if (exponent == THALINGUZE_SIXTIETHS)
-        return;
-    printf(" to the power ");
-    print_sixtieths(exponent);
+    struct text inside = {0}, wanted = {0};
+    put(&inside, ", %s,", list->s);
+    put(&wanted, ", %s,", item);
+    if (!strstr(inside.s, wanted.s))
+        put(list, "%s%s", (*count)++ ? ", " : "", item);
 }
 
-static void print_spelling(const uint8_t *label, const uint8_t *record, unsigned i)
+/* the spellings of the terms on which a verdict is no: those on which it is no alone */
+static unsigned list_blamed(struct text *list, uint32_t notation, const char *label, const uint8_t *record, unsigned verdict)
 {
-    printf("%.*s", (int)thalinguze_term_length(record, i), (const char *)label + thalinguze_term_start(record, i));
-}
-
-/* the letters of an unknown unit */
-static void print_letters(const uint8_t *label, const uint8_t *record, unsigned i)
-{
-    printf("%.*s", (int)thalinguze_term_letters_length(record, i), (const char *)label + thalinguze_term_letters_start(record, i));
-}
-
-static void print_term(const uint8_t *label, const uint8_t *record, unsigned i)
-{
-    const struct prefix_word *prefix = &prefix_words[thalinguze_term_prefix(record, i)];
-    int unit = thalinguze_term_unit(record, i);
-    printf("Term %u, ", i + 1);
-    print_spelling(label, record, i);
-    printf(": ");
-    if (unit != THALINGUZE_UNIT_UNKNOWN) {
-        printf("%s%s%s", prefix->word, strchr(unit_words[unit].word, ' ') && *prefix->word ? " " : "", unit_words[unit].word);
-    } else {
-        if (*prefix->word)
-            printf("prefix %s and ", prefix->word);
-        printf("unknown unit ");
-        print_letters(label, record, i);
-    }
-    print_power(thalinguze_term_exponent(record, i));
-    printf(", %s the line\n", thalinguze_term_exponent(record, i) < 0 ? "below" : "above");
-}
-
-/* the verdicts on one term: those on its spelling as a label of its own */
-static void read_term(uint32_t notation, const uint8_t *label, const uint8_t *record, unsigned i, uint8_t *alone)
-{
-    memset(alone, 0, THALINGUZE_RECORD_SIZE);
-    thalinguze_read(notation, label + thalinguze_term_start(record, i), thalinguze_term_length(record, i), alone, THALINGUZE_RECORD_SIZE);
-}
-
-static void print_unknown(uint32_t notation, const uint8_t *label, const uint8_t *record, unsigned i)
-{
-    printf(": ");
-    print_letters(label, record, i);
-    printf(" is no unit that %s knows", notation_words[notation].name);
-}
-
-/* a verdict, and where it is no, each term to blame */
-static void print_verdict(uint32_t notation, const uint8_t *label, const uint8_t *record, unsigned field)
-{
-    static const char *const names[] = {"Known", "Lawful", "Recommended"};
-    printf("%s: %s", names[field - THALINGUZE_FIELD_KNOWN], thalinguze_field(record, field) ? "yes\n" : "no");
-    if (thalinguze_field(record, field))
-        return;
-    for (unsigned i = 0, blamed = 0; i < thalinguze_count(record); i++) {
+    unsigned count = 0;
+    for (unsigned i = 0; i < thalinguze_count(record); i++) {
         uint8_t alone[THALINGUZE_RECORD_SIZE];
-        int unit = thalinguze_term_unit(record, i);
-        read_term(notation, label, record, i, alone);
-        if (thalinguze_field(alone, field))
-            continue;
-        printf(blamed++ ? "; term %u, " : ", because of term %u, ", i + 1);
-        print_spelling(label, record, i);
-        if (unit == THALINGUZE_UNIT_UNKNOWN && field == THALINGUZE_FIELD_KNOWN)
-            print_unknown(notation, label, record, i);
-        else if (unit == THALINGUZE_UNIT_UNKNOWN)
-            printf(": the unit is unknown");
-        else if (field == THALINGUZE_FIELD_LAWFUL)
-            printf(": the unit %s takes no prefix in %s", unit_words[unit].word, notation_words[notation].name);
-        else
-            printf(": the unit %s is not recommended", unit_words[unit].word);
+        struct text spelling = spelling_of(label, record, i);
+        ask(notation, spelling.s, alone);
+        if (!thalinguze_field(alone, verdict))
+            add_once(list, spelling.s, &count);
     }
-    printf("\n");
+    return count;
 }
 
-static void print_dimensions(const uint8_t *record)
+static void print_first_sentence(uint32_t notation, const char *label, const uint8_t *record)
 {
-    bool any = false;
-    printf("Dimensions: ");
-    for (unsigned b = 0; b < THALINGUZE_BASES; b++) {
-        int64_t exponent = thalinguze_dimension(record, b);
-        if (exponent == 0)
-            continue;
-        printf("%s%s", any ? ", " : "", base_words[b].word);
-        print_power(exponent);
-        any = true;
-    }
-    printf("%s%s\n", any ? "" : "none", thalinguze_known(record) ? "" : ", with unknown units left out");
-}
-
-static void print_scale(const uint8_t *record)
-{
-    int64_t twos = thalinguze_scale(record, THALINGUZE_PRIME_2), fives = thalinguze_scale(record, THALINGUZE_PRIME_5);
-    bool others = thalinguze_scale(record, THALINGUZE_PRIME_3) || thalinguze_scale(record, THALINGUZE_PRIME_487), any = false;
-    printf("Scale: ");
-    for (unsigned p = 0; p < THALINGUZE_PRIMES; p++) {
-        int64_t exponent = thalinguze_scale(record, p);
-        if (exponent == 0)
-            continue;
-        printf("%s%d", any ? " times " : "", prime_words[p]);
-        print_power(exponent);
-        any = true;
-    }
-    if (!any)
-        printf("1");
-    if (any && twos == fives && !others) {
-        printf(", which is 10");
-        print_power(twos);
-    }
-    printf("\n");
-}
-
-/* for a term that is unknown or unlawful: what people mean by its spelling, and how to write that */
-static void print_meant(uint32_t notation, const uint8_t *label, const uint8_t *record, unsigned i)
-{
-    uint8_t alone[THALINGUZE_RECORD_SIZE];
-    const struct meant_unit *m = find_meant_unit(notation, label + thalinguze_term_start(record, i), thalinguze_term_length(record, i));
-    read_term(notation, label, record, i, alone);
-    if (m && !(thalinguze_known(alone) && thalinguze_lawful(alone)))
-        printf("If term %u is meant to be %s, write: %s\n", i + 1, m->word, m->label[notation]);
-}
-
-void report_reading(uint32_t notation, const uint8_t *label, const uint8_t *record)
-{
-    unsigned count = thalinguze_count(record);
-    if (count == 0)
-        printf("Accepted. It has no terms: it stands for a plain number, without a unit.\n");
+    struct text said = {0}, blamed = {0};
+    say_reading(&said, label, record);
+    unsigned unknown = list_blamed(&blamed, notation, label, record, THALINGUZE_FIELD_KNOWN);
+    if (unknown)
+        printf("Accepted, but %u unit%s unknown: %s.\nIt reads: %s.\n", unknown, unknown == 1 ? " is" : "s are", blamed.s, said.s);
+    else if (list_blamed(&blamed, notation, label, record, THALINGUZE_FIELD_LAWFUL))
+        printf("Accepted, but a unit has a prefix that it does not take in %s: %s.\nIt reads: %s.\n", notation_words[notation].name, blamed.s, said.s);
     else
-        printf("Accepted, with %u term%s.\n", count, count == 1 ? "" : "s");
-    for (unsigned i = 0; i < count; i++)
-        print_term(label, record, i);
-    printf("Power of ten: %d\n", thalinguze_k(record));
-    for (unsigned field = THALINGUZE_FIELD_KNOWN; field <= THALINGUZE_FIELD_RECOMMENDED; field++)
-        print_verdict(notation, label, record, field);
-    print_dimensions(record);
-    print_scale(record);
-    for (unsigned i = 0; i < count; i++)
-        print_meant(notation, label, record, i);
+        printf("Accepted: %s.\n", said.s);
+}
+
+/* the terms on one side of the fraction line, where there is something below it */
+static void print_sides(const char *label, const uint8_t *record)
+{
+    struct text sides[2] = {{0}, {0}};
+    for (unsigned i = 0; i < thalinguze_count(record); i++) {
+        int64_t exponent = thalinguze_term_exponent(record, i);
+        struct text *side = &sides[exponent < 0];
+        put(side, "%s", side->length ? ", " : "");
+        say_term(side, label, record, i, exponent < 0 ? -exponent : exponent);
+    }
+    if (sides[1].length)
+        printf("Above the line: %s.\nBelow the line: %s.\n", sides[0].length ? sides[0].s : "nothing", sides[1].s);
+}
+
+/* whether every term is a base without a prefix, so that the size says nothing new */
+static bool is_of_bases(const uint8_t *record)
+{
+    bool all = thalinguze_k(record) == 0;
+    for (unsigned i = 0; i < thalinguze_count(record); i++) {
+        bool base = false;
+        for (unsigned b = 0; b < THALINGUZE_BASES; b++)
+            base |= strcmp(base_words[b].symbol, unit_words[thalinguze_term_unit(record, i)].symbol) == 0;
+        all &= base && thalinguze_term_prefix(record, i) == THALINGUZE_PREFIX_NONE;
+    }
+    return all;
+}
+
+static void print_size(const uint8_t *record, bool in_full)
+{
+    struct text size = {0}, dimensions = {0};
+    say_size(&size, record);
+    say_dimensions(&dimensions, record);
+    if (in_full)
+        printf("Dimensions: %s%s.\n", dimensions.s, thalinguze_known(record) ? "" : ", with unknown units left out");
+    if (in_full || (thalinguze_known(record) && !is_of_bases(record)))
+        printf("Size: %s.\n", size.s);
+}
+
+/* every term and every verdict */
+static void print_in_full(const char *label, const uint8_t *record)
+{
+    for (unsigned i = 0; i < thalinguze_count(record); i++) {
+        struct text term = {0};
+        say_term(&term, label, record, i, thalinguze_term_exponent(record, i));
+        printf("Term %u, %s: %s, %s the line.\n", i + 1, spelling_of(label, record, i).s, term.s, thalinguze_term_exponent(record, i) < 0 ? "below" : "above");
+    }
+    printf("Power of ten: %s%d.\n", thalinguze_k(record) < 0 ? "minus " : "", thalinguze_k(record) < 0 ? -thalinguze_k(record) : thalinguze_k(record));
+    printf("Known: %s.\nLawful: %s.\nRecommended: %s.\n", thalinguze_known(record) ? "yes" : "no", thalinguze_lawful(record) ? "yes" : "no",
+           thalinguze_recommended(record) ? "yes" : "no");
+}
+
+static void print_suggestions(FILE *out, const struct advice *a)
+{
+    static const char *const claims[] = {[SAME] = "Write: ", [ASKED] = "Did you mean: ",
+        [NEXT] = "If only the unit or group straight after a slash is below the line, write: ",
+        [REST] = "If all that follows the slash is below the line, write: "};
+    for (unsigned i = 0; i < a->count; i++) {
+        const struct suggestion *s = &a->list[i];
+        uint8_t record[THALINGUZE_RECORD_SIZE];
+        struct text said = {0};
+        if (s->claim == ANOTHER) {
+            ask(s->source, a->plain.s, record);
+            say_reading(&said, a->plain.s, record);
+            fprintf(out, "As %s this is %s; in %s: ", notation_words[s->source].name, said.s, notation_words[a->notation].name);
+        }
+        fprintf(out, "%s%s\n", s->claim == ANOTHER ? "" : *s->label ? claims[s->claim] : "Write the empty label.", s->label);
+    }
+}
+
+void report_reading(uint32_t notation, const char *label, const uint8_t *record, bool in_full)
+{
+    struct advice a;
+    struct text blamed = {0};
+    print_first_sentence(notation, label, record);
+    if (in_full)
+        print_in_full(label, record);
+    else
+        print_sides(label, record);
+    if (thalinguze_known(record) && list_blamed(&blamed, notation, label, record, THALINGUZE_FIELD_RECOMMENDED))
+        printf("Not recommended: %s.\n", blamed.s);
+    print_size(record, in_full);
+    advise_on_spelling(&a, notation, label);
+    print_suggestions(stdout, &a);
 }
 
 /* REFUSED */
 
-static void print_condition(uint32_t notation, size_t size, uint32_t number)
+void report_refusal(FILE *out, uint32_t notation, const char *label, uint32_t number)
 {
     static const char *const conditions[] = {
-        [THALINGUZE_BYTE_OUT_OF_RANGE] = "a byte of the label lies outside hexadecimal 20 to 7E.",
-        [THALINGUZE_NUMBER_OUT_OF_BOUNDS] = "a run of digits, an exponent or the factor breaks its bound.",
-        [THALINGUZE_TOO_DEEP] = "more than 8 brackets are open at once.",
-        [THALINGUZE_TOO_MANY_TERMS] = "the label has more than 32 terms.",
+        [THALINGUZE_TOO_LONG] = "the label has more than 255 bytes.",
+        [THALINGUZE_BYTE_OUT_OF_RANGE] = "the label has a character that no label has.",
+        [THALINGUZE_NOT_IN_GRAMMAR] = "the label does not follow the rules of",
+        [THALINGUZE_NUMBER_OUT_OF_BOUNDS] = "an exponent, a power of ten or a run of digits breaks its bound.",
+        [THALINGUZE_TOO_DEEP] = "more than 8 brackets are open at once. Take brackets away.",
+        [THALINGUZE_TOO_MANY_TERMS] = "the label has more than 32 terms. Write a unit that comes several times once, with an exponent.",
     };
-    printf("Refused, number %u: ", (unsigned)number);
-    if (number == THALINGUZE_TOO_LONG)
-        printf("the label has %zu bytes, and a label may have 255.\n", size);
-    else if (number == THALINGUZE_NOT_IN_GRAMMAR)
-        printf("the label does not follow the rules of %s.\n", notation_words[notation].name);
-    else
-        printf("%s\n", conditions[number]);
-}
-
-/* which notations accept a label that this one refuses; it is not read in them any further */
-static void print_other_notations(uint32_t notation, const uint8_t *label, size_t size)
-{
-    uint8_t unread;
-    uint32_t accepting[4];
-    unsigned count = 0;
-    for (uint32_t n = THALINGUZE_FITS; n <= THALINGUZE_VOUNITS; n++)
-        if (thalinguze_read(n, label, size, &unread, 0) == THALINGUZE_ACCEPTED)
-            accepting[count++] = n;
-    for (unsigned i = 0; i < count; i++)
-        printf("%s%s", i == 0 ? "" : i + 1 < count ? ", " : " and ", notation_words[accepting[i]].name);
-    if (count)
-        printf(" accept%s the label as it stands: is %s the right notation?\n", count == 1 ? "s" : "", notation_words[notation].name);
-}
-
-static void print_examples(uint32_t notation)
-{
-    printf("Labels of %s look like these:\n", notation_words[notation].name);
-    for (const char *const *example = example_labels[notation]; *example; example++)
-        printf("%s\n", *example);
-}
-
-void report_refusal(uint32_t notation, const uint8_t *label, size_t size, uint32_t number)
-{
+    const struct notation_word *w = &notation_words[notation];
+    bool rules = number == THALINGUZE_NOT_IN_GRAMMAR;
     struct advice a;
-    print_condition(notation, size, number);
-    advise(&a, notation, label, size, number);
-    for (unsigned i = 0; i < a.reasons; i++)
-        printf("%s\n", a.reason[i]);
-    for (unsigned i = 0; i < a.suggestions; i++)
-        if (*a.suggestion[i].label)
-            printf("%s: %s\n", a.suggestion[i].when, a.suggestion[i].label);
-        else
-            printf("%s the empty label.\n", a.suggestion[i].when);
-    if (number == THALINGUZE_NOT_IN_GRAMMAR) {
-        print_other_notations(notation, label, size);
-        if (a.suggestions == 0)
-            print_examples(notation);
-    }
+    fprintf(out, "Refused, number %u: %s%s%s%s\n", (unsigned)number, conditions[number], rules ? " " : "", rules ? w->name : "", rules ? "." : "");
+    advise(&a, notation, label, number);
+    fputs(a.reasons.s, out);
+    print_suggestions(out, &a);
+    if (rules && a.count == 0)
+        fprintf(out, "Labels of %s look like these: %s; %s; %s\n", w->name, w->examples[0], w->examples[1], w->examples[2]);
 }

@@ -1,17 +1,15 @@
-/* A reading, accepted or refused, told to a person. */
+/* Readings, accepted or refused, told to a person: the answer in the first sentence, then one fact on each line. */
 #ifndef REPORT_H
 #define REPORT_H
 
-#include <stddef.h>
+#include <stdbool.h>
 #include <stdint.h>
+#include <stdio.h>
 
-/* The label with bytes that cannot be printed as <hexadecimal>, cut where it is too long to be one. */
-void print_label(const uint8_t *label, size_t size);
+/* What an accepted label means; with --long also what goes without saying. */
+void report_reading(uint32_t notation, const char *label, const uint8_t *record, bool in_full);
 
-/* What an accepted label means. */
-void report_reading(uint32_t notation, const uint8_t *label, const uint8_t *record);
-
-/* Why a label is refused in a notation, 1 to 4, and what to write instead. */
-void report_refusal(uint32_t notation, const uint8_t *label, size_t size, uint32_t number);
+/* Why a label is refused in a notation, with a number from 2 to 7, and what to write instead. */
+void report_refusal(FILE *out, uint32_t notation, const char *label, uint32_t number);
 
 #endif

@@ -1,33 +1,46 @@
-/* The words of units, prefixes, bases and notations, each at the place of its code. */
+/* All tables of names: notations, prefixes, units, bases, signs and other spellings, most of them by the code in the library's header. */
 #ifndef WORDS_H
 #define WORDS_H
 
 #include "../include/thalinguze.h"
 
-struct word {
-    const char *symbol; /* as labels write it */
-    const char *word;   /* as a person says it */
+/* How many notations there are; the first has the number 1. */
+enum { NOTATIONS = THALINGUZE_VOUNITS };
+
+struct notation_word {
+    const char *argument; /* as the command takes it; a longer name that starts so is taken too */
+    const char *name;     /* as a person says it */
+    const char *signs;    /* that its labels have, besides letters and digits */
+    const char *joints, *spaces, *powers, *factors, *slashes; /* its rules, each to follow "In FITS" */
+    const char *examples[3];
+};
+
+static const struct notation_word notation_words[NOTATIONS + 1] = {
+    [THALINGUZE_FITS] = {"fits", "FITS", "()/*.+-^ ", "one space, a star or a point joins units",
+                         "no space comes beside a slash, a star, a point or an exponent, or inside a bracket, and one space joins units",
+                         "an exponent that is not whole is a fraction in brackets", "a power of ten is 10, two stars and its exponent",
+                         "there is one slash at most, not after a power of ten, and one unit or group after it, without a slash",
+                         {"kg m2/s3", "10**3 erg/(s cm2)", "Hz(1/2)"}},
+    [THALINGUZE_OGIP] = {"ogip", "OGIP", "()/*.+- ", "a space or a star joins units", "no space comes before an exponent or inside a bracket",
+                         "an exponent comes after two stars", "a power of ten is 10, two stars and its exponent",
+                         "each slash puts the unit or group straight after it below the line",
+                         {"kg m**2/s**3", "10**3 erg/(s cm**2)", "Hz**(1/2)"}},
+    [THALINGUZE_CDS] = {"cds", "CDS", "()/*.+-%", "a point joins units", "there are no spaces",
+                        "an exponent is a whole number straight after its unit", "a power of ten is 10 and its exponent with a plus or minus sign",
+                        "each slash puts the unit or group straight after it below the line", {"kg.m2/s3", "10+3J/(s.cm2)", "km/s/Mpc"}},
+    [THALINGUZE_VOUNITS] = {"vou", "VOUnits", "()/*.+-'", "a point joins units", "there are no spaces", "an exponent comes after two stars",
+                            "a power of ten is 10, two stars and its exponent",
+                            "there is one slash at most in a group or outside, not at the start, and one unit or group after it",
+                            {"kg.m**2/s**3", "10**3erg/(s.cm**2)", "Hz**(1/2)"}},
 };
 
 struct prefix_word {
-    const char *symbol;
-    const char *word;
+    const char *symbol, *word;
     int power; /* of ten */
 };
 
-struct notation_word {
-    const char *argument; /* as the command takes it */
-    const char *name;     /* as a person says it */
-};
-
-static const struct notation_word notation_words[5] = {
-    [THALINGUZE_FITS] = {"fits", "FITS"},
-    [THALINGUZE_OGIP] = {"ogip", "OGIP"},
-    [THALINGUZE_CDS] = {"cds", "CDS"},
-    [THALINGUZE_VOUNITS] = {"vou", "VOUnits"},
-};
-
-static const struct prefix_word prefix_words[21] = {
+enum { PREFIXES = THALINGUZE_PREFIX_YOCTO };
+static const struct prefix_word prefix_words[PREFIXES + 1] = {
     {"", "", 0},
     {"da", "deca", 1}, {"h", "hecto", 2}, {"k", "kilo", 3}, {"M", "mega", 6}, {"G", "giga", 9},
     {"T", "tera", 12}, {"P", "peta", 15}, {"E", "exa", 18}, {"Z", "zetta", 21}, {"Y", "yotta", 24},
@@ -35,30 +48,97 @@ static const struct prefix_word prefix_words[21] = {
     {"p", "pico", -12}, {"f", "femto", -15}, {"a", "atto", -18}, {"z", "zepto", -21}, {"y", "yocto", -24},
 };
 
-static const struct word unit_words[THALINGUZE_UNITS + 1] = {
-    {"?", "unknown"},
-    {"m", "metre"}, {"g", "gram"}, {"s", "second"}, {"A", "ampere"}, {"K", "kelvin"}, {"mol", "mole"}, {"cd", "candela"},
-    {"rad", "radian"}, {"sr", "steradian"}, {"Hz", "hertz"}, {"N", "newton"}, {"Pa", "pascal"}, {"J", "joule"}, {"W", "watt"},
-    {"C", "coulomb"}, {"V", "volt"}, {"S", "siemens"}, {"F", "farad"}, {"Wb", "weber"}, {"T", "tesla"}, {"H", "henry"},
-    {"lm", "lumen"}, {"lx", "lux"}, {"min", "minute"}, {"h", "hour"}, {"d", "day"}, {"yr", "year"}, {"deg", "degree"},
-    {"arcmin", "arcminute"}, {"arcsec", "arcsecond"}, {"AU", "astronomical unit"}, {"pc", "parsec"}, {"eV", "electronvolt"},
-    {"Jy", "jansky"}, {"barn", "barn"}, {"mag", "magnitude"}, {"byte", "byte"}, {"mas", "milliarcsecond"}, {"pixel", "pixel"},
-    {"count", "count"}, {"Ry", "rydberg"}, {"solMass", "solar mass"}, {"solLum", "solar luminosity"}, {"solRad", "solar radius"},
-    {"D", "debye"}, {"Sun", "Sun"}, {"bit", "bit"}, {"ohm", "ohm"}, {"erg", "erg"}, {"G", "gauss"}, {"lyr", "light year"},
-    {"photon", "photon"}, {"chan", "channel"}, {"bin", "bin"}, {"voxel", "voxel"}, {"u", "atomic mass unit"}, {"R", "rayleigh"},
-    {"adu", "analogue-to-digital unit"}, {"beam", "beam"}, {"angstrom", "angstrom"}, {"%", "percent"},
+struct unit_word {
+    const char *symbol, *word; /* as labels write it, as a person says it */
+    const char *other;         /* its other name in labels, or NULL */
 };
 
-static const struct word base_words[THALINGUZE_BASES] = {
-    {"m", "metre"}, {"g", "gram"}, {"s", "second"}, {"A", "ampere"}, {"K", "kelvin"}, {"mol", "mole"}, {"cd", "candela"},
-    {"rad", "radian"}, {"sr", "steradian"}, {"arcsec", "arcsecond"}, {"bit", "bit"}, {"AU", "astronomical unit"}, {"pc", "parsec"},
-    {"eV", "electronvolt"}, {"mag", "magnitude"}, {"pixel", "pixel"}, {"count", "count"}, {"Ry", "rydberg"},
-    {"solMass", "solar mass"}, {"solLum", "solar luminosity"}, {"solRad", "solar radius"}, {"D", "debye"}, {"Sun", "Sun"},
-    {"lyr", "light year"}, {"photon", "photon"}, {"chan", "channel"}, {"bin", "bin"}, {"voxel", "voxel"}, {"u", "atomic mass unit"},
-    {"R", "rayleigh"}, {"adu", "analogue-to-digital unit"}, {"beam", "beam"},
+static const struct unit_word unit_words[THALINGUZE_UNITS + 1] = {
+    {"?", "unknown", 0},
+    {"m", "metre", 0}, {"g", "gram", 0}, {"s", "second", 0}, {"A", "ampere", 0}, {"K", "kelvin", 0}, {"mol", "mole", 0},
+    {"cd", "candela", 0}, {"rad", "radian", 0}, {"sr", "steradian", 0}, {"Hz", "hertz", 0}, {"N", "newton", 0}, {"Pa", "pascal", 0},
+    {"J", "joule", 0}, {"W", "watt", 0}, {"C", "coulomb", 0}, {"V", "volt", 0}, {"S", "siemens", 0}, {"F", "farad", 0}, {"Wb", "weber", 0},
+    {"T", "tesla", 0}, {"H", "henry", 0}, {"lm", "lumen", 0}, {"lx", "lux", 0}, {"min", "minute", 0}, {"h", "hour", 0}, {"d", "day", 0},
+    {"yr", "year", "a"}, {"deg", "degree", 0}, {"arcmin", "arcminute", 0}, {"arcsec", "arcsecond", 0}, {"AU", "astronomical unit", 0},
+    {"pc", "parsec", 0}, {"eV", "electronvolt", 0}, {"Jy", "jansky", 0}, {"barn", "barn", 0}, {"mag", "magnitude", 0}, {"byte", "byte", 0},
+    {"mas", "milliarcsecond", 0}, {"pixel", "pixel", "pix"}, {"count", "count", "ct"}, {"Ry", "rydberg", 0}, {"solMass", "solar mass", 0},
+    {"solLum", "solar luminosity", 0}, {"solRad", "solar radius", 0}, {"D", "debye", 0}, {"Sun", "Sun", 0}, {"bit", "bit", 0},
+    {"ohm", "ohm", "Ohm"}, {"erg", "erg", 0}, {"G", "gauss", 0}, {"lyr", "light year", 0}, {"photon", "photon", "ph"},
+    {"chan", "channel", 0}, {"bin", "bin", 0}, {"voxel", "voxel", 0}, {"u", "atomic mass unit", 0}, {"R", "rayleigh", 0},
+    {"adu", "analogue-to-digital unit", 0}, {"beam", "beam", 0}, {"angstrom", "angstrom", "Angstrom"}, {"%", "percent", 0},
+};
+
+struct base_word {
+    const char *symbol, *word, *words; /* as labels write it, as a person says one of it, and several */
+};
+
+static const struct base_word base_words[THALINGUZE_BASES] = {
+    {"m", "metre", "metres"}, {"g", "gram", "grams"}, {"s", "second", "seconds"}, {"A", "ampere", "amperes"}, {"K", "kelvin", "kelvins"},
+    {"mol", "mole", "moles"}, {"cd", "candela", "candelas"}, {"rad", "radian", "radians"}, {"sr", "steradian", "steradians"},
+    {"arcsec", "arcsecond", "arcseconds"}, {"bit", "bit", "bits"}, {"AU", "astronomical unit", "astronomical units"},
+    {"pc", "parsec", "parsecs"}, {"eV", "electronvolt", "electronvolts"}, {"mag", "magnitude", "magnitudes"}, {"pixel", "pixel", "pixels"},
+    {"count", "count", "counts"}, {"Ry", "rydberg", "rydbergs"}, {"solMass", "solar mass", "solar masses"},
+    {"solLum", "solar luminosity", "solar luminosities"}, {"solRad", "solar radius", "solar radii"}, {"D", "debye", "debyes"},
+    {"Sun", "Sun", "Suns"}, {"lyr", "light year", "light years"}, {"photon", "photon", "photons"}, {"chan", "channel", "channels"},
+    {"bin", "bin", "bins"}, {"voxel", "voxel", "voxels"}, {"u", "atomic mass unit", "atomic mass units"}, {"R", "rayleigh", "rayleighs"},
+    {"adu", "analogue-to-digital unit", "analogue-to-digital units"}, {"beam", "beam", "beams"},
 };
 
 /* the primes of a scale */
 static const int prime_words[THALINGUZE_PRIMES] = {2, 3, 5, 487};
+
+/* Spellings of units that no notation has, and the unit that people mean by them, with its prefix. Capitals and a plural s are seen to. */
+static const struct spelling_word {
+    const char *spelling;
+    int prefix, unit;
+} spelling_words[] = {
+    {"sec", 0, THALINGUZE_UNIT_SECOND}, {"hr", 0, THALINGUZE_UNIT_HOUR}, {"meter", 0, THALINGUZE_UNIT_METRE},
+    {"kilometer", THALINGUZE_PREFIX_KILO, THALINGUZE_UNIT_METRE}, {"micron", THALINGUZE_PREFIX_MICRO, THALINGUZE_UNIT_METRE},
+    {"cts", 0, THALINGUZE_UNIT_COUNT}, {"cnt", 0, THALINGUZE_UNIT_COUNT}, {"px", 0, THALINGUZE_UNIT_PIXEL},
+    {"phot", 0, THALINGUZE_UNIT_PHOTON}, {"ly", 0, THALINGUZE_UNIT_LIGHT_YEAR}, {"Ang", 0, THALINGUZE_UNIT_ANGSTROM},
+    {"Msun", 0, THALINGUZE_UNIT_SOLAR_MASS}, {"Lsun", 0, THALINGUZE_UNIT_SOLAR_LUMINOSITY}, {"Rsun", 0, THALINGUZE_UNIT_SOLAR_RADIUS},
+    {"B", 0, THALINGUZE_UNIT_BYTE}, {"asec", 0, THALINGUZE_UNIT_ARCSECOND}, {"amin", 0, THALINGUZE_UNIT_ARCMINUTE},
+    {"bm", 0, THALINGUZE_UNIT_BEAM}, {"amu", 0, THALINGUZE_UNIT_ATOMIC_MASS_UNIT}, {"electron volt", 0, THALINGUZE_UNIT_ELECTRONVOLT},
+};
+enum { SPELLINGS = sizeof spelling_words / sizeof spelling_words[0] };
+
+/* Names that people put before a bracket for a function. */
+static const char *const function_words[] = {"log10", "log", "ln", "lg", "exp", "sqrt", "dex", "dB", "mag", "sin", "cos", "tan", "abs"};
+enum { FUNCTIONS = sizeof function_words / sizeof function_words[0] };
+
+/* Signs by their Unicode number: the name, and what is written for it in labels, or NULL. */
+static const struct sign_word {
+    unsigned code;
+    const char *name, *instead;
+    int unit; /* whose name is written, or 0 */
+} sign_words[] = {
+    {0x9, "a tab", " ", 0}, {0xa, "the end of a line", " ", 0}, {0xd, "a carriage return", " ", 0}, {' ', "a space", 0, 0},
+    {'!', "an exclamation mark", 0, 0}, {'"', "a double quote", 0, 0}, {'#', "a number sign", 0, 0}, {'$', "a dollar sign", "", 0},
+    {'%', "a percent sign", 0, 0}, {'&', "an ampersand", 0, 0}, {'\'', "a quote", 0, 0}, {'(', "a bracket", 0, 0}, {')', "a bracket", 0, 0},
+    {'*', "a star", 0, 0}, {'+', "a plus sign", 0, 0}, {',', "a comma", 0, 0}, {'-', "a hyphen", 0, 0}, {'.', "a point", 0, 0},
+    {'/', "a slash", 0, 0}, {':', "a colon", 0, 0}, {';', "a semicolon", 0, 0}, {'<', "a less-than sign", 0, 0}, {'=', "an equals sign", 0, 0},
+    {'>', "a greater-than sign", 0, 0}, {'?', "a question mark", 0, 0}, {'@', "an at sign", 0, 0}, {'[', "a square bracket", 0, 0},
+    {'\\', "a backslash", 0, 0}, {']', "a square bracket", 0, 0}, {'^', "a caret", 0, 0}, {'_', "an underscore", 0, 0},
+    {'`', "a grave accent", 0, 0}, {'{', "a curly bracket", "(", 0}, {'|', "a vertical bar", 0, 0}, {'}', "a curly bracket", ")", 0},
+    {'~', "a tilde", 0, 0}, {0xa0, "a non-breaking space", " ", 0}, {0x2009, "a thin space", " ", 0}, {0x202f, "a narrow non-breaking space", " ", 0},
+    {0x2002, "an en space", " ", 0}, {0x2003, "an em space", " ", 0}, {0x200a, "a hair space", " ", 0}, {0x200b, "a space of no width", "", 0},
+    {0xfeff, "a byte order mark", "", 0}, {0xb5, "a micro sign", "u", 0}, {0x3bc, "the Greek letter mu", "u", 0},
+    {0xb7, "a raised point", ".", 0}, {0x22c5, "a raised point", ".", 0}, {0x2022, "a bullet", ".", 0}, {0x2219, "a bullet", ".", 0},
+    {0xd7, "a multiplication sign", "*", 0}, {0x2217, "a star sign", "*", 0}, {0x2215, "a division slash", "/", 0},
+    {0x2044, "a fraction slash", "/", 0}, {0xf7, "a division sign", "/", 0}, {0x2212, "a minus sign", "-", 0}, {0x2010, "a typeset hyphen", "-", 0},
+    {0x2011, "a non-breaking hyphen", "-", 0}, {0x2013, "an en dash", "-", 0}, {0x2014, "an em dash", "-", 0},
+    {0x207b, "a superscript minus", "-", 0}, {0x207a, "a superscript plus", "+", 0}, {0x2070, "a superscript zero", "0", 0},
+    {0xb9, "a superscript one", "1", 0}, {0xb2, "a superscript two", "2", 0}, {0xb3, "a superscript three", "3", 0},
+    {0x2074, "a superscript four", "4", 0}, {0x2075, "a superscript five", "5", 0}, {0x2076, "a superscript six", "6", 0},
+    {0x2077, "a superscript seven", "7", 0}, {0x2078, "a superscript eight", "8", 0}, {0x2079, "a superscript nine", "9", 0},
+    {0x2018, "a curly quote", "'", 0}, {0x2019, "a curly quote", "'", 0}, {0x201c, "a curly double quote", "\"", 0},
+    {0x201d, "a curly double quote", "\"", 0}, {0xb0, "a degree sign", "", THALINGUZE_UNIT_DEGREE},
+    {0x2032, "a prime for minutes of arc", "", THALINGUZE_UNIT_ARCMINUTE}, {0x2033, "a double prime for seconds of arc", "", THALINGUZE_UNIT_ARCSECOND},
+    {0xc5, "the letter A with a ring", "", THALINGUZE_UNIT_ANGSTROM}, {0x212b, "an angstrom sign", "", THALINGUZE_UNIT_ANGSTROM},
+    {0x3a9, "the Greek letter omega", "", THALINGUZE_UNIT_OHM}, {0x2126, "an ohm sign", "", THALINGUZE_UNIT_OHM},
+    {0x2299, "a sign for the Sun", 0, 0}, {0x2609, "a sign for the Sun", 0, 0}, {0x2103, "a sign for degrees Celsius", 0, 0},
+    {0x221a, "a root sign", 0, 0}, {0x2030, "a per mille sign", 0, 0},
+};
+enum { SIGNS = sizeof sign_words / sizeof sign_words[0] };
 
 #endif

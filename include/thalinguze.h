@@ -33,6 +33,11 @@
 #include <stddef.h>
 #include <stdint.h>
 
+#define THALINGUZE_VERSION_MAJOR 0
+#define THALINGUZE_VERSION_MINOR 9
+#define THALINGUZE_VERSION_PATCH 0
+#define THALINGUZE_VERSION_STRING "0.9.0"
+
 #ifdef __cplusplus
 extern "C" {
 #endif

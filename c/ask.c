@@ -1,0 +1,63 @@
+/* Questions to the library about labels that end in a byte 0. */
+#include <string.h>
+#include "ask.h"
+
+uint32_t ask(uint32_t notation, const char *label, uint8_t *record)
+{
+    memset(record, 0, THALINGUZE_RECORD_SIZE);
+    return thalinguze_read(notation, (const uint8_t *)label, strlen(label), record, THALINGUZE_RECORD_SIZE);
+}
+
+bool accepts(uint32_t notation, const char *label)
+{
+    uint8_t unread;
+    return thalinguze_read(notation, (const uint8_t *)label, strlen(label), &unread, 0) == THALINGUZE_ACCEPTED;
+}
+
+bool is_sound(uint32_t notation, const char *label, uint8_t *record)
+{
+    uint8_t own[THALINGUZE_RECORD_SIZE];
+    record = record ? record : own;
+    return ask(notation, label, record) == THALINGUZE_ACCEPTED && thalinguze_known(record) && thalinguze_lawful(record);
+}
+
+uint32_t ask_rewriting(uint32_t source, const char *label, uint32_t target, struct text *result)
+{
+    uint8_t buffer[THALINGUZE_MAX_LABEL_SIZE];
+    struct thalinguze_rewritten r = thalinguze_rewrite(source, (const uint8_t *)label, strlen(label), target, buffer, sizeof buffer);
+    put(result, "%.*s", (int)r.length, (const char *)buffer);
+    return r.number;
+}
+
+const char *name_in(uint32_t notation, int unit)
+{
+    const char *const names[] = {unit_words[unit].symbol, unit_words[unit].other};
+    uint8_t record[THALINGUZE_RECORD_SIZE];
+    for (unsigned i = 0; i < 2 && names[i]; i++)
+        if (is_sound(notation, names[i], record) && thalinguze_term_unit(record, 0) == unit)
+            return names[i];
+    return NULL;
+}
+
+struct text spelling_of(const char *label, const uint8_t *record, unsigned i)
+{
+    struct text t = {0};
+    put(&t, "%.*s", (int)thalinguze_term_length(record, i), label + thalinguze_term_start(record, i));
+    return t;
+}
+
+bool same_exponents(const uint8_t *a, const uint8_t *b)
+{
+    bool same = thalinguze_k(a) == thalinguze_k(b) && thalinguze_count(a) == thalinguze_count(b);
+    for (unsigned i = 0; same && i < thalinguze_count(a); i++)
+        same = thalinguze_term_exponent(a, i) == thalinguze_term_exponent(b, i);
+    return same;
+}
+
+bool same_terms(const uint8_t *a, const uint8_t *b)
+{
+    bool same = same_exponents(a, b);
+    for (unsigned i = 0; same && i < thalinguze_count(a); i++)
+        same = thalinguze_term_prefix(a, i) == thalinguze_term_prefix(b, i) && thalinguze_term_unit(a, i) == thalinguze_term_unit(b, i);
+    return same;
+}

@@ -1,6 +1,14 @@
-/* Questions to the library about labels that end in a byte 0. */
-#include <string.h>
-#include "ask.h"
+/* The library's answers about labels that end in a byte 0. */
+#include "command.h"
+
+void put(struct text *t, const char *format, ...)
+{
+    va_list arguments;
+    va_start(arguments, format);
+    int length = vsnprintf(t->s + t->length, TEXT_ROOM - t->length, format, arguments);
+    va_end(arguments);
+    t->length = (size_t)length < TEXT_ROOM - t->length ? t->length + (size_t)length : TEXT_ROOM - 1;
+}
 
 uint32_t ask(uint32_t notation, const char *label, uint8_t *record)
 {
@@ -10,14 +18,12 @@ uint32_t ask(uint32_t notation, const char *label, uint8_t *record)
 
 bool accepts(uint32_t notation, const char *label)
 {
-    uint8_t unread;
-    return thalinguze_read(notation, (const uint8_t *)label, strlen(label), &unread, 0) == THALINGUZE_ACCEPTED;
+    uint8_t record[THALINGUZE_RECORD_SIZE];
+    return ask(notation, label, record) == THALINGUZE_ACCEPTED;
 }
 
 bool is_sound(uint32_t notation, const char *label, uint8_t *record)
 {
-    uint8_t own[THALINGUZE_RECORD_SIZE];
-    record = record ? record : own;
     return ask(notation, label, record) == THALINGUZE_ACCEPTED && thalinguze_known(record) && thalinguze_lawful(record);
 }
 
@@ -46,18 +52,11 @@ struct text spelling_of(const char *label, const uint8_t *record, unsigned i)
     return t;
 }
 
-bool same_exponents(const uint8_t *a, const uint8_t *b)
+bool same_terms(const uint8_t *a, const uint8_t *b, bool units)
 {
     bool same = thalinguze_k(a) == thalinguze_k(b) && thalinguze_count(a) == thalinguze_count(b);
     for (unsigned i = 0; same && i < thalinguze_count(a); i++)
-        same = thalinguze_term_exponent(a, i) == thalinguze_term_exponent(b, i);
-    return same;
-}
-
-bool same_terms(const uint8_t *a, const uint8_t *b)
-{
-    bool same = same_exponents(a, b);
-    for (unsigned i = 0; same && i < thalinguze_count(a); i++)
-        same = thalinguze_term_prefix(a, i) == thalinguze_term_prefix(b, i) && thalinguze_term_unit(a, i) == thalinguze_term_unit(b, i);
+        same = thalinguze_term_exponent(a, i) == thalinguze_term_exponent(b, i)
+            && (!units || (thalinguze_term_prefix(a, i) == thalinguze_term_prefix(b, i) && thalinguze_term_unit(a, i) == thalinguze_term_unit(b, i)));
     return same;
 }

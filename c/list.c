@@ -1,6 +1,5 @@
 /* The command list: the units that a notation knows, as the library answers for each name. */
-#include "ask.h"
-#include "commands.h"
+#include "command.h"
 
 static void list_name(uint32_t notation, const char *name, int unit)
 {

@@ -1,21 +1,19 @@
 /* Signs of word processors and typesetting: their names, and what labels have instead. */
 #include <ctype.h>
-#include <string.h>
-#include "signs.h"
+#include "command.h"
 
 /* the Unicode number of the first character, in UTF-8 or else in Latin-1, and how many bytes it has */
 static unsigned decode(const char *s, size_t *length)
 {
     const unsigned char *u = (const unsigned char *)s;
     unsigned more = u[0] >= 0xf0 ? 3 : u[0] >= 0xe0 ? 2 : u[0] >= 0xc2 ? 1 : 0, code = more ? u[0] & (0x3fu >> more) : u[0];
-    for (unsigned i = 1; i <= more; i++) {
-        if ((u[i] & 0xc0) != 0x80) {
+    for (*length = 1; *length <= more; ++*length) {
+        if ((u[*length] & 0xc0) != 0x80) {
             *length = 1;
             return u[0];
         }
-        code = code << 6 | (u[i] & 0x3fu);
+        code = code << 6 | (u[*length] & 0x3fu);
     }
-    *length = more + 1;
     return code;
 }
 
@@ -29,36 +27,24 @@ static const struct sign_word *find_sign(unsigned code)
 
 const char *sign_name(char c)
 {
-    const struct sign_word *sign = find_sign((unsigned char)c);
-    return sign ? sign->name : "a sign";
+    return find_sign((unsigned char)c) ? find_sign((unsigned char)c)->name : "a sign";
 }
 
-/* adds a name to a list of them, once */
-static void add_name(struct text *names, const struct sign_word *sign, unsigned code, size_t length)
+/* adds a sign's name to a list of them, once */
+static void add_name(struct text *names, const struct sign_word *sign, unsigned code)
 {
     struct text name = {0};
-    if (sign)
-        put(&name, "%s", sign->name);
-    else
-        put(&name, length > 1 ? "the character with the Unicode number %X" : "the byte hexadecimal %02X", code);
+    put(&name, sign ? "%.99s" : code < 0x100 ? "the byte hexadecimal %.0s%02X" : "the character with the Unicode number %.0s%X", sign ? sign->name : "", code);
     const char *found = strstr(names->s, name.s);
-    if (found == NULL || (found[name.length] != ',' && found[name.length] != 0))
+    if (!found || !strchr(",", found[name.length]))
         put(names, "%s%s", names->length ? ", " : "", name.s);
-}
-
-/* a raised number straight after a digit is the exponent of a power of ten */
-static bool starts_power_of_ten(const char *label, size_t at, unsigned code)
-{
-    bool raised = (code >= 0x2070 && code <= 0x207b) || code == 0xb9 || code == 0xb2 || code == 0xb3;
-    return raised && at > 0 && isdigit((unsigned char)label[at - 1]);
 }
 
 bool replace_signs(uint32_t notation, const char *label, struct text *plain, struct text *reasons)
 {
     struct text names = {0};
     bool replaced = true, celsius = false;
-    size_t length;
-    for (size_t at = 0; label[at]; at += length) {
+    for (size_t at = 0, length; label[at]; at += length) {
         unsigned code = decode(label + at, &length);
         const struct sign_word *sign = find_sign(code);
         celsius |= code == 0x2103 || (code == 0xb0 && (label[at + length] == 'C' || label[at + length] == 'F'));
@@ -66,11 +52,12 @@ bool replace_signs(uint32_t notation, const char *label, struct text *plain, str
             put(plain, "%c", label[at]);
             continue;
         }
-        add_name(&names, sign, code, length);
-        const char *name = sign && sign->unit ? name_in(notation, sign->unit) : NULL;
-        put(plain, "%s%s", starts_power_of_ten(label, at, code) ? "**" : "",
-            name ? name : sign && sign->unit ? unit_words[sign->unit].symbol : sign && sign->instead ? sign->instead : "");
+        add_name(&names, sign, code);
         replaced &= sign && sign->instead;
+        const char *name = sign && sign->unit ? name_in(notation, sign->unit) : NULL;
+        if (sign && strstr(sign->name, "superscript") && at > 0 && isdigit((unsigned char)label[at - 1]))
+            put(plain, "**"); /* the exponent of a power of ten */
+        put(plain, "%s", name ? name : sign && sign->unit ? unit_words[sign->unit].symbol : sign && sign->instead ? sign->instead : "");
     }
     if (names.length)
         put(reasons, "The label has %s. Labels have only the letters, digits and signs of plain ASCII.\n", names.s);

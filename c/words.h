@@ -68,37 +68,18 @@ static const struct unit_word unit_words[THALINGUZE_UNITS + 1] = {
     {"adu", "analogue-to-digital unit", 0}, {"beam", "beam", 0}, {"angstrom", "angstrom", "Angstrom"}, {"%", "percent", 0},
 };
 
-struct base_word {
-    const char *symbol, *word, *words; /* as labels write it, as a person says one of it, and several */
+/* The bases, each a unit of its own, and the primes of a scale. */
+static const char *const base_symbols[THALINGUZE_BASES] = {
+    "m", "g", "s", "A", "K", "mol", "cd", "rad", "sr", "arcsec", "bit", "AU", "pc", "eV", "mag", "pixel", "count", "Ry", "solMass", "solLum",
+    "solRad", "D", "Sun", "lyr", "photon", "chan", "bin", "voxel", "u", "R", "adu", "beam",
 };
-
-static const struct base_word base_words[THALINGUZE_BASES] = {
-    {"m", "metre", "metres"}, {"g", "gram", "grams"}, {"s", "second", "seconds"}, {"A", "ampere", "amperes"}, {"K", "kelvin", "kelvins"},
-    {"mol", "mole", "moles"}, {"cd", "candela", "candelas"}, {"rad", "radian", "radians"}, {"sr", "steradian", "steradians"},
-    {"arcsec", "arcsecond", "arcseconds"}, {"bit", "bit", "bits"}, {"AU", "astronomical unit", "astronomical units"},
-    {"pc", "parsec", "parsecs"}, {"eV", "electronvolt", "electronvolts"}, {"mag", "magnitude", "magnitudes"}, {"pixel", "pixel", "pixels"},
-    {"count", "count", "counts"}, {"Ry", "rydberg", "rydbergs"}, {"solMass", "solar mass", "solar masses"},
-    {"solLum", "solar luminosity", "solar luminosities"}, {"solRad", "solar radius", "solar radii"}, {"D", "debye", "debyes"},
-    {"Sun", "Sun", "Suns"}, {"lyr", "light year", "light years"}, {"photon", "photon", "photons"}, {"chan", "channel", "channels"},
-    {"bin", "bin", "bins"}, {"voxel", "voxel", "voxels"}, {"u", "atomic mass unit", "atomic mass units"}, {"R", "rayleigh", "rayleighs"},
-    {"adu", "analogue-to-digital unit", "analogue-to-digital units"}, {"beam", "beam", "beams"},
-};
-
-/* the primes of a scale */
 static const int prime_words[THALINGUZE_PRIMES] = {2, 3, 5, 487};
 
-/* Spellings of units that no notation has, and the unit that people mean by them, with its prefix. Capitals and a plural s are seen to. */
-static const struct spelling_word {
-    const char *spelling;
-    int prefix, unit;
-} spelling_words[] = {
-    {"sec", 0, THALINGUZE_UNIT_SECOND}, {"hr", 0, THALINGUZE_UNIT_HOUR}, {"meter", 0, THALINGUZE_UNIT_METRE},
-    {"kilometer", THALINGUZE_PREFIX_KILO, THALINGUZE_UNIT_METRE}, {"micron", THALINGUZE_PREFIX_MICRO, THALINGUZE_UNIT_METRE},
-    {"cts", 0, THALINGUZE_UNIT_COUNT}, {"cnt", 0, THALINGUZE_UNIT_COUNT}, {"px", 0, THALINGUZE_UNIT_PIXEL},
-    {"phot", 0, THALINGUZE_UNIT_PHOTON}, {"ly", 0, THALINGUZE_UNIT_LIGHT_YEAR}, {"Ang", 0, THALINGUZE_UNIT_ANGSTROM},
-    {"Msun", 0, THALINGUZE_UNIT_SOLAR_MASS}, {"Lsun", 0, THALINGUZE_UNIT_SOLAR_LUMINOSITY}, {"Rsun", 0, THALINGUZE_UNIT_SOLAR_RADIUS},
-    {"B", 0, THALINGUZE_UNIT_BYTE}, {"asec", 0, THALINGUZE_UNIT_ARCSECOND}, {"amin", 0, THALINGUZE_UNIT_ARCMINUTE},
-    {"bm", 0, THALINGUZE_UNIT_BEAM}, {"amu", 0, THALINGUZE_UNIT_ATOMIC_MASS_UNIT}, {"electron volt", 0, THALINGUZE_UNIT_ELECTRONVOLT},
+/* Spellings that no notation has, and a usual one of the same unit. Capitals, full names and a plural s are seen to in spelling.c. */
+static const char *const spelling_words[][2] = {
+    {"sec", "s"}, {"hr", "h"}, {"meter", "m"}, {"kilometer", "km"}, {"micron", "um"}, {"cts", "count"}, {"cnt", "count"}, {"px", "pixel"},
+    {"phot", "photon"}, {"ly", "lyr"}, {"Ang", "angstrom"}, {"Msun", "solMass"}, {"Lsun", "solLum"}, {"Rsun", "solRad"}, {"B", "byte"},
+    {"asec", "arcsec"}, {"amin", "arcmin"}, {"bm", "beam"}, {"amu", "u"}, {"ster", "sr"},
 };
 enum { SPELLINGS = sizeof spelling_words / sizeof spelling_words[0] };
 

@@ -1,0 +1,91 @@
+/* The commands rewrite and convert. Results are on standard output, refusals on standard error. */
+#include <inttypes.h>
+#include "command.h"
+
+/* why a term has no form in the target, if it has none */
+static void blame_term(uint32_t source, const char *label, const uint8_t *record, unsigned i, uint32_t target)
+{
+    const struct notation_word *here = &notation_words[source], *there = &notation_words[target];
+    struct text spelling = spelling_of(label, record, i), exponent = {0}, metre = {0}, unused = {0}, said = {0}, other = {0};
+    uint8_t alone[THALINGUZE_RECORD_SIZE];
+    put_sixtieths(&exponent, thalinguze_term_exponent(record, i));
+    put(&metre, "m**(%s)", exponent.s);
+    if (ask_rewriting(THALINGUZE_OGIP, metre.s, target, &unused) == THALINGUZE_NO_FORM)
+        fprintf(stderr, "%s has the exponent %s. In %s %s.\n", spelling.s, exponent.s, there->name, there->powers);
+    if (ask_rewriting(source, spelling.s, target, &unused) != THALINGUZE_NO_FORM)
+        return;
+    ask(source, spelling.s, alone);
+    say_reading(&said, spelling.s, alone);
+    if (ask(target, spelling.s, alone) == THALINGUZE_ACCEPTED)
+        say_reading(&other, spelling.s, alone);
+    fprintf(stderr, "%s is %s in %s, ", spelling.s, said.s, here->name);
+    if (other.length)
+        fprintf(stderr, "but would be %s in %s.\n", other.s, there->name);
+    else
+        fprintf(stderr, "which %s does not have.\n", there->name);
+}
+
+int rewrite_label(uint32_t source, const char *label, uint32_t target)
+{
+    struct text result = {0};
+    uint8_t record[THALINGUZE_RECORD_SIZE];
+    uint32_t number = ask_rewriting(source, label, target, &result);
+    if (number == THALINGUZE_ACCEPTED) {
+        printf("%s\n", result.s);
+        return 0;
+    }
+    if (ask(source, label, record) != THALINGUZE_ACCEPTED) {
+        report_refusal(stderr, source, label, number);
+        return REFUSED;
+    }
+    fprintf(stderr, "Refused, number %u: the label %s in %s.\n", (unsigned)number,
+            number == THALINGUZE_NO_FORM ? "has no form" : "would have more than 255 bytes", notation_words[target].name);
+    for (unsigned i = 0; i < thalinguze_count(record) && number == THALINGUZE_NO_FORM; i++)
+        blame_term(source, label, record, i, target);
+    return REFUSED;
+}
+
+/* what one of two labels has to do with the refusal of a conversion */
+static void explain(const char *which, uint32_t notation, const char *label, uint32_t number)
+{
+    uint8_t record[THALINGUZE_RECORD_SIZE];
+    struct text said = {0};
+    ask(notation, label, record);
+    say_dimensions(&said, record);
+    if (number == THALINGUZE_DIMENSIONS_DIFFER)
+        fprintf(stderr, "The dimensions of the %s label: %s.\n", which, said.s);
+    for (unsigned i = 0; i < thalinguze_count(record) && number == THALINGUZE_UNKNOWN_UNIT; i++)
+        if (thalinguze_term_unit(record, i) == THALINGUZE_UNIT_UNKNOWN)
+            fprintf(stderr, "Unknown in the %s label, in %s: %s.\n", which, notation_words[notation].name, spelling_of(label, record, i).s);
+}
+
+int convert_labels(uint32_t first, const char *label, uint32_t second, const char *other, bool in_full)
+{
+    static const char *const conditions[] = {
+        [THALINGUZE_UNKNOWN_UNIT] = "a unit is unknown, and so is its size.",
+        [THALINGUZE_DIMENSIONS_DIFFER] = "the dimensions differ.",
+        [THALINGUZE_NO_FRACTION] = "the factor between the labels is a root, not a fraction.",
+        [THALINGUZE_FACTOR_OUT_OF_BOUNDS] = "the factor has more than 53 bits above or below its line, or a power of ten beyond 9999.",
+    };
+    uint8_t record[THALINGUZE_CONVERSION_SIZE];
+    struct text factor = {0};
+    uint32_t number = thalinguze_convert(first, (const uint8_t *)label, strlen(label), second, (const uint8_t *)other, strlen(other), record, sizeof record);
+    if (number == THALINGUZE_ACCEPTED) {
+        int64_t n = thalinguze_numerator(record), d = thalinguze_denominator(record), k = thalinguze_conversion_k(record);
+        say_fraction(&factor, n, d, k);
+        printf("1%s%s is %s%s%s.\n", *label ? " " : "", label, factor.s, *other ? " " : "", other);
+        if (k || in_full)
+            printf("n = %" PRId64 ", d = %" PRId64 ", k = %s%" PRId64 ": the factor is n/d times ten to the power k.\n", n, d, k < 0 ? "minus " : "", k < 0 ? -k : k);
+        return 0;
+    }
+    bool accepted = accepts(first, label);
+    if (number < THALINGUZE_UNKNOWN_UNIT) {
+        fprintf(stderr, "The %s label cannot be read.\n", accepted ? "second" : "first");
+        report_refusal(stderr, accepted ? second : first, accepted ? other : label, number);
+        return REFUSED;
+    }
+    fprintf(stderr, "Refused, number %u: %s\n", (unsigned)number, conditions[number]);
+    explain("first", first, label, number);
+    explain("second", second, other, number);
+    return REFUSED;
+}

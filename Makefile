@@ -70,7 +70,8 @@ build/tests/%: tests/%.c tests/arena.h tests/hex_label.h tests/labels.h tests/pa
 
 build/tests/stack: CFLAGS += -pthread
 build/tests/guard build/tests/advice build/tests/rewrite build/tests/convert: CFLAGS += $(SANITIZERS)
-build/tests/advice: c/advice.c c/loose.c c/loose_numbers.c c/meant.c
+build/tests/advice: $(filter-out c/thalinguze.c,$(wildcard c/*.c))
+build/tests/advice: LIBRARY += -lm
 
 build/tests/guard-plain: tests/guard.c tests/arena.h tests/labels.h $(HEADERS) $(LIBRARY)
 	@mkdir -p build/tests

@@ -62,10 +62,12 @@ static void give_rules(struct advice *a, const bool used[HABITS], bool slashes)
     const char *const rules[] = {[SPACES] = w->spaces, [FACTORS] = w->factors, [JOINTS] = w->joints, [POWERS] = w->powers};
     if (used[ENDS])
         give_reason(&a->reasons, "Spaces and quotes round a label are no part of it.");
+    if (used[FACTORS] && leading_number(a->plain.s).k == 0)
+        give_reason(&a->reasons, "In %s the number 1 is not written.", w->name);
     for (unsigned h = FACTORS; h < HABITS; h++)
-        if (used[h])
+        if (used[h] && (h != FACTORS || leading_number(a->plain.s).k))
             give_reason(&a->reasons, "In %s %s.", w->name, rules[h]);
-    if (slashes)
+    if (slashes && w->slashes)
         give_reason(&a->reasons, "In %s %s.", w->name, w->slashes);
 }
 
@@ -102,11 +104,11 @@ static void suggest_by_others(struct advice *a, bool as_it_stands)
             continue;
         say_reading(&said, a->plain.s, there);
         bool sound = ask_rewriting(n, a->plain.s, a->notation, &result) == THALINGUZE_ACCEPTED && is_sound(a->notation, result.s, here);
-        if (!sound)
+        if (!sound && !strstr(a->reasons.s, "unknown in"))
             give_reason(&a->reasons, "As %s this is %s, which %s does not have.", notation_words[n].name, said.s, notation_words[a->notation].name);
-        else if (a->count && a->list[0].claim == SAME && is_sound(a->notation, a->list[0].label, first) && same_terms(here, first, true))
+        else if (sound && a->count && a->list[0].claim == SAME && is_sound(a->notation, a->list[0].label, first) && same_terms(here, first, true))
             put(&names, "%s%s", names.length ? " and " : "", notation_words[n].name);
-        else
+        else if (sound)
             suggest(a, ANOTHER, n, result.s);
     }
     if (names.length && as_it_stands)

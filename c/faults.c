@@ -42,7 +42,7 @@ void blame_forms(uint32_t notation, const char *label, struct text *reasons)
         size_t size = exponent_length(label, (size_t)(at - label), &exponent);
         put(&metre, "m%.*s", (int)size, at);
         open += (*at == '(') - (*at == ')');
-        if (!isalnum((unsigned char)*at) && !strchr(w->signs, *at))
+        if (!isalnum((unsigned char)*at) && *at != ' ' && !strchr(w->signs, *at))
             give_reason(reasons, "No %s label has %s.", w->name, sign_name(*at));
         if (size && exponent.s[strspn(exponent.s, "+-")] == '0')
             give_reason(reasons, "An exponent does not start with 0.");
@@ -50,11 +50,17 @@ void blame_forms(uint32_t notation, const char *label, struct text *reasons)
             give_reason(reasons, "In %s %s.", w->name, w->powers);
         if (*at == '-' && !isdigit((unsigned char)at[1]))
             give_reason(reasons, "A hyphen is only the minus sign of a number.");
-        if (strchr("/.*", *at) && (at[1] == 0 || at[1] == '/' || (at[1] == '.' && !isdigit((unsigned char)at[2])) || at[1] == ')'))
+        if ((strchr("/.", *at) && at[1] && strchr("/.*)", at[1])) || (at == label && strchr(".*", *at)))
             give_reason(reasons, "A slash, a star or a point needs a unit on both sides.");
+        if (strchr("/.*^", *at) && at[1] == 0)
+            give_reason(reasons, "The label ends where something must follow.");
+        if (*at == '/' && isdigit((unsigned char)at[1]) && open == 0)
+            give_reason(reasons, "No number comes after a slash. An exponent that is a fraction is in brackets.");
         if (*at == ')' && at[1] && !isdigit((unsigned char)at[-1]) && (strchr("^+-0123456789", at[1]) || strncmp(at + 1, "**", 2) == 0))
             give_reason(reasons, "A group takes no exponent. Give each unit in it its own.");
     }
+    if (strchr(label, '\'') && strchr(w->signs, '\''))
+        give_reason(reasons, "Between quotes there are letters alone, and before them at most a prefix.");
     if (open)
         give_reason(reasons, "A bracket has no partner.");
     if (strstr(label, "()"))

@@ -72,13 +72,18 @@ static size_t power_length(const char *s, struct text *exponent)
         length += 1 + strspn(s + at + length + 1, DIGITS);
     if (bracket && s[at + length] != ')')
         return 0;
-    put(exponent, "%.*s", (int)length, length == 3 && strncmp(s + at, "0.5", 3) == 0 ? "1/2" : s + at);
+    if (strncmp(s + at + length - 3, "0.5", 3) == 0 && length <= 4)
+        put(exponent, "%s1/2", s[at] == '-' ? "-" : "");
+    else
+        put(exponent, "%.*s", (int)length, s + at);
     return at + length + bracket;
 }
 
 size_t exponent_length(const char *label, size_t at, struct text *exponent)
 {
-    return at > 0 && is_unit_byte(label[at - 1]) ? power_length(label + at, exponent) : 0;
+    size_t length = at > 0 && is_unit_byte(label[at - 1]) ? power_length(label + at, exponent) : 0;
+    const char *after = label + at + length;
+    return isalnum((unsigned char)*after) || is_one_of(*after, "(^+-'%") || strncmp(after, "**", 2) == 0 ? 0 : length; /* else it is no exponent */
 }
 
 struct leading leading_number(const char *s)
@@ -89,7 +94,7 @@ struct leading leading_number(const char *s)
         return (struct leading){0, 0, false};
     if (whole == 2 && strncmp(s, "10", 2) == 0)
         power = power_length(s + 2, &exponent);
-    if (s[end] == '.' && is_one_of(s[end + 1], DIGITS))
+    if (s[end] == '.' && is_one_of(s[end + 1], DIGITS "eE"))
         end += 1 + strspn(s + end + 1, DIGITS);
     struct leading l = {end, one < whole ? (int)(whole - one) - 1 : (int)whole - (int)one, one < end && s[one] == '1'};
     l.power_of_ten &= one + 1 + strspn(s + one + 1, "0.") >= end;
@@ -102,6 +107,7 @@ struct leading leading_number(const char *s)
     l.length += strspn(s + l.length, " ");
     if (is_one_of(s[l.length], "*."))
         l.length += 1 + strspn(s + l.length + 1, " ");
+    l.power_of_ten &= !is_one_of(s[l.length], DIGITS "*^.+-");
     return l;
 }
 
@@ -114,6 +120,7 @@ static void replace_ends(uint32_t notation, const char *s, struct text *to)
     while (end > first && s[end - 1] == ' ')
         end--;
     bool quoted = end > first + 2 && is_one_of(s[first], "'\"`") && s[end - 1] == s[first] && !memchr(s + first + 1, s[first], end - first - 2);
+    quoted &= !accepts(THALINGUZE_VOUNITS, s); /* where quotes are round a unit of the author's own */
     put(to, "%.*s", (int)(end - first - 2 * quoted), s + first + quoted);
     (void)notation;
 }

@@ -99,7 +99,7 @@ void report_refusal(FILE *out, uint32_t notation, const char *label, uint32_t nu
 {
     static const char *const conditions[] = {
         [THALINGUZE_TOO_LONG] = "the label has more than 255 bytes.",
-        [THALINGUZE_BYTE_OUT_OF_RANGE] = "the label has a character that no label has.",
+        [THALINGUZE_BYTE_OUT_OF_RANGE] = "the label has signs that are not plain ASCII.",
         [THALINGUZE_NOT_IN_GRAMMAR] = "the label does not follow the rules of ",
         [THALINGUZE_NUMBER_OUT_OF_BOUNDS] = "a number is out of bounds.\nExponents and powers of ten go from minus 99 to 99, with at most 4 digits in a row."
             "\nAn exponent may have parts that divide 60: halves, thirds, quarters, fifths, sixths and so on.",

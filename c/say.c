@@ -139,23 +139,23 @@ static const char *countable_base(const uint8_t *record)
 
 void say_size(struct text *t, const uint8_t *record)
 {
-    struct text dimensions = {0};
+    struct text number = {0}, above = {0};
     int64_t n, d, k;
     bool plain = plain_scale(record, &n, &d, &k);
     const char *base = plain ? countable_base(record) : NULL;
-    if (plain) {
-        say_fraction(t, n, d, k);
-        fold(&n, &d, &k);
-    }
+    fold(&n, &d, &k);
+    bool part = plain && (k < 0 || (k == 0 && n < d)), one = plain && n == 1 && d == 1 && k == 0;
+    if (plain)
+        say_fraction(&number, n, d, k);
     for (unsigned p = 0; p < THALINGUZE_PRIMES && !plain; p++)
         if (thalinguze_scale(record, p)) {
-            put(t, "%s%d", t->length ? " times " : "", prime_words[p]);
-            say_power(t, thalinguze_scale(record, p));
+            put(&number, "%s%d", number.length ? " times " : "", prime_words[p]);
+            say_power(&number, thalinguze_scale(record, p));
         }
-    bool part = k < 0 || (k == 0 && n < d), one = n == 1 && d == 1 && k == 0;
-    say_bases(&dimensions, record, false, base && !part && !one);
-    if (dimensions.length)
-        put(t, !base ? " times" : !part ? "" : strchr("aeiou", base[0]) ? " of an" : " of a");
-    say_bases(&dimensions, record, true, false);
-    put(t, "%s%s", dimensions.length ? " " : "", dimensions.s);
+    say_bases(&above, record, false, base && !part && !one);
+    if (base || above.length == 0)
+        put(t, "%s%s%s", number.s, !base ? "" : !part ? " " : strchr("aeiou", base[0]) ? " of an " : " of a ", above.s);
+    else
+        put(t, "%s%s%s", one ? "" : number.s, one ? "" : " times ", above.s);
+    say_bases(t, record, true, false);
 }

@@ -60,7 +60,7 @@ bool replace_signs(uint32_t notation, const char *label, struct text *plain, str
         put(plain, "%s", name ? name : sign && sign->unit ? unit_words[sign->unit].symbol : sign && sign->instead ? sign->instead : "");
     }
     if (names.length)
-        put(reasons, "The label has %s. Labels have only the letters, digits and signs of plain ASCII.\n", names.s);
+        put(reasons, "No label has %s.\n", names.s);
     if (celsius)
         put(reasons, "Degrees Celsius and Fahrenheit are no units here. The unit of temperature is the kelvin, K.\n");
     return replaced && !celsius;

@@ -3,68 +3,64 @@
 #include <strings.h>
 #include "command.h"
 
-/* whether a spelling is a prefix and a name but for capitals and a plural s; only common prefixes may have another case */
-static bool is_form(const char *spelling, const char *prefix, const char *name)
+/* whether a spelling is a common prefix and a name, but for capitals and a plural s; a name of one letter and milli keep their case */
+static bool is_form(const char *spelling, const char *prefix, const char *name, bool mega)
 {
-    size_t before = strlen(prefix), length = before + strlen(name), plural = strlen(spelling) - length;
-    bool common = before != 1 || strchr("kMGmunc", prefix[0]);
-    if (strlen(spelling) < length || plural > 1 || (plural && (tolower((unsigned char)spelling[length]) != 's' || length < 2)))
+    size_t before = strlen(prefix), letters = strlen(name), length = strlen(spelling);
+    bool plural = letters > 1 && length == before + letters + 1 && tolower((unsigned char)spelling[length - 1]) == 's';
+    bool same_case = strncmp(spelling, prefix, before) == 0, any_case = prefix[0] != 'm' && (mega || prefix[0] != 'M');
+    if (length != before + letters + plural || (before == 1 && !strchr("kMGmunc", prefix[0])))
         return false;
-    return strncasecmp(spelling + before, name, length - before) == 0
-        && (common ? strncasecmp(spelling, prefix, before) : strncmp(spelling, prefix, before)) == 0;
+    return (same_case || (any_case && strncasecmp(spelling, prefix, before) == 0))
+        && (letters > 1 ? strncasecmp(spelling + before, name, letters) : strncmp(spelling + before, name, letters)) == 0;
 }
 
-/* adds the notation's name of a unit with a prefix, if it may have one */
-static bool put_symbol(uint32_t notation, int prefix, int unit, struct text *to)
-{
-    uint8_t record[THALINGUZE_RECORD_SIZE];
-    struct text t = {0};
-    const char *name = name_in(notation, unit);
-    put(&t, "%s%s", prefix_words[prefix].symbol, name ? name : "");
-    if (!name || !is_sound(notation, t.s, record) || thalinguze_term_unit(record, 0) != unit)
-        return false;
-    put(to, "%s", t.s);
-    return true;
-}
-
+/* adds the notation's name for a spelling, with its prefix */
 static bool put_meant(uint32_t notation, const char *spelling, bool mega, struct text *to)
 {
-    for (unsigned i = 0; i < SPELLINGS; i++)
-        if (is_form(spelling, "", spelling_words[i][0]))
-            spelling = spelling_words[i][1];
-    for (int i = 0; i <= PREFIXES + 1; i++) {
-        int p = i == 0 ? THALINGUZE_PREFIX_NONE : i > 1 ? i - 1 : mega ? THALINGUZE_PREFIX_MEGA : THALINGUZE_PREFIX_MILLI;
-        const struct prefix_word *prefix = &prefix_words[p];
+    uint8_t record[THALINGUZE_RECORD_SIZE];
+    struct text usual = {0};
+    for (int p = 0; p <= PREFIXES; p++)
+        for (unsigned i = 0; i < SPELLINGS && usual.length == 0; i++)
+            if (is_form(spelling, prefix_words[p].symbol, spelling_words[i][0], false) || is_form(spelling, prefix_words[p].word, spelling_words[i][0], false))
+                put(&usual, "%s%s", prefix_words[p].symbol, spelling_words[i][1]);
+    spelling = usual.length ? usual.s : spelling;
+    for (int p = 0; p <= PREFIXES; p++)
         for (int u = 1; u <= THALINGUZE_UNITS; u++) {
-            const struct unit_word *unit = &unit_words[u];
-            bool meant = is_form(spelling, prefix->symbol, unit->symbol) || (unit->other && is_form(spelling, prefix->symbol, unit->other));
-            if ((meant || is_form(spelling, prefix->word, unit->word)) && put_symbol(notation, p, u, to))
+            const char *prefix = prefix_words[p].symbol, *other = unit_words[u].other;
+            struct text t = {0};
+            bool meant = is_form(spelling, prefix, unit_words[u].symbol, mega) || (other && is_form(spelling, prefix, other, mega))
+                      || is_form(spelling, prefix_words[p].word, unit_words[u].word, mega);
+            const char *name = meant ? name_in(notation, u) : NULL;
+            put(&t, "%s%s", prefix, name ? name : "");
+            if (name && is_sound(notation, t.s, record)) {
+                put(to, "%s", t.s);
                 return true;
+            }
         }
-    }
     return false;
 }
 
 bool respell(uint32_t notation, const char *given, bool mega, struct text *result)
 {
     uint8_t record[THALINGUZE_RECORD_SIZE], alone[THALINGUZE_RECORD_SIZE];
-    bool capitals = strpbrk(given, "abcdefghijklmnopqrstuvwxyz") == NULL, found = true;
+    bool capitals = strpbrk(given, "abcdefghijklmnopqrstuvwxyz") == NULL && strlen(given) > 1, found = true;
     struct text label = {0};
     for (size_t i = 0; given[i]; i++) {
         bool prefix = mega && given[i] == 'M' && isalpha((unsigned char)given[i + 1]) && (i == 0 || !isalpha((unsigned char)given[i - 1]));
         put(&label, "%c", capitals && !prefix ? tolower((unsigned char)given[i]) : given[i]);
     }
     ask(notation, label.s, record);
-    for (unsigned i = 0, at = 0; i < thalinguze_count(record); i++) {
+    size_t at = 0;
+    for (unsigned i = 0; i < thalinguze_count(record); i++) {
         struct text spelling = spelling_of(label.s, record, i);
-        size_t start = thalinguze_term_start(record, i), end = i + 1 < thalinguze_count(record) ? thalinguze_term_start(record, i + 1) : label.length;
-        put(result, "%.*s", (int)(start - at), label.s + at);
+        put(result, "%.*s", (int)(thalinguze_term_start(record, i) - at), label.s + at);
+        at = thalinguze_term_start(record, i) + spelling.length;
         if (is_sound(notation, spelling.s, alone))
             put(result, "%s", spelling.s);
         else
             found &= put_meant(notation, spelling.s, mega, result);
-        put(result, "%.*s", (int)(end - start - spelling.length), label.s + start + spelling.length);
-        at = (unsigned)end;
     }
+    put(result, "%s", label.s + at);
     return found && is_sound(notation, result->s, record);
 }

@@ -8,29 +8,26 @@
 enum { NOTATIONS = THALINGUZE_VOUNITS };
 
 struct notation_word {
-    const char *argument; /* as the command takes it; a longer name that starts so is taken too */
+    const char *argument; /* as the command takes it, beside the name */
     const char *name;     /* as a person says it */
     const char *signs;    /* that its labels have, besides letters and digits */
-    const char *joints, *spaces, *powers, *factors, *slashes; /* its rules, each to follow "In FITS" */
+    const char *joints, *spaces, *powers, *factors, *slashes; /* its rules, each to follow "In FITS", or NULL */
     const char *examples[3];
 };
 
 static const struct notation_word notation_words[NOTATIONS + 1] = {
-    [THALINGUZE_FITS] = {"fits", "FITS", "()/*.+-^ ", "one space, a star or a point joins units",
-                         "no space comes beside a slash, a star, a point or an exponent, or inside a bracket, and one space joins units",
+    [THALINGUZE_FITS] = {"fits", "FITS", "()/*.+-^ ", "one space, a star or a point joins units", "one space may join units, and there are no other spaces",
                          "an exponent that is not whole is a fraction in brackets", "a power of ten is 10, two stars and its exponent",
-                         "there is one slash at most, not after a power of ten, and one unit or group after it, without a slash",
+                         "one slash is allowed, outside groups and not after a power of ten, and one unit or group after it",
                          {"kg m2/s3", "10**3 erg/(s cm2)", "Hz(1/2)"}},
-    [THALINGUZE_OGIP] = {"ogip", "OGIP", "()/*.+- ", "a space or a star joins units", "no space comes before an exponent or inside a bracket",
-                         "an exponent comes after two stars", "a power of ten is 10, two stars and its exponent",
-                         "each slash puts the unit or group straight after it below the line",
-                         {"kg m**2/s**3", "10**3 erg/(s cm**2)", "Hz**(1/2)"}},
-    [THALINGUZE_CDS] = {"cds", "CDS", "()/*.+-%", "a point joins units", "there are no spaces",
-                        "an exponent is a whole number straight after its unit", "a power of ten is 10 and its exponent with a plus or minus sign",
-                        "each slash puts the unit or group straight after it below the line", {"kg.m2/s3", "10+3J/(s.cm2)", "km/s/Mpc"}},
+    [THALINGUZE_OGIP] = {"ogip", "OGIP", "()/*.+- ", "a space or a star joins units", "there are no spaces inside brackets or before an exponent",
+                         "an exponent comes after two stars, a fraction in brackets", "a power of ten is 10, two stars and its exponent",
+                         0, {"kg m**2/s**3", "10**3 erg/(s cm**2)", "Hz**(1/2)"}},
+    [THALINGUZE_CDS] = {"cds", "CDS", "()/*.+-%", "a point joins units", "there are no spaces", "an exponent is a whole number straight after its unit",
+                        "a power of ten is 10 and its exponent with a plus or minus sign, without spaces",
+                        0, {"kg.m2/s3", "10+3J/(s.cm2)", "km/s/Mpc"}},
     [THALINGUZE_VOUNITS] = {"vou", "VOUnits", "()/*.+-'", "a point joins units", "there are no spaces", "an exponent comes after two stars",
-                            "a power of ten is 10, two stars and its exponent",
-                            "there is one slash at most in a group or outside, not at the start, and one unit or group after it",
+                            "a power of ten is 10, two stars and its exponent, without spaces", "one slash is allowed, after a unit, and one unit or group after it",
                             {"kg.m**2/s**3", "10**3erg/(s.cm**2)", "Hz**(1/2)"}},
 };
 

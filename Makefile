@@ -23,7 +23,7 @@ test: all $(TESTS)
 	@tests/library.sh
 	@tests/header.sh
 	@build/tests/advice
-	@tests/read.sh
+	@tests/command.sh
 	@tests/readme.sh
 	@tests/second.sh 5000 1 all
 	@tests/independent.sh

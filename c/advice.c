@@ -62,11 +62,9 @@ static void give_rules(struct advice *a, const bool used[HABITS], bool slashes)
     const char *const rules[] = {[SPACES] = w->spaces, [FACTORS] = w->factors, [JOINTS] = w->joints, [POWERS] = w->powers};
     if (used[ENDS])
         give_reason(&a->reasons, "Spaces and quotes round a label are no part of it.");
-    if (used[FACTORS] && leading_number(a->plain.s).k == 0)
-        give_reason(&a->reasons, "In %s the number 1 is not written.", w->name);
     for (unsigned h = FACTORS; h < HABITS; h++)
-        if (used[h] && (h != FACTORS || leading_number(a->plain.s).k))
-            give_reason(&a->reasons, "In %s %s.", w->name, rules[h]);
+        if (used[h])
+            give_reason(&a->reasons, "In %s %s.", w->name, h == FACTORS && a->plain.s[0] == '1' && a->plain.s[1] == '/' ? "the number 1 is not written" : rules[h]);
     if (slashes && w->slashes)
         give_reason(&a->reasons, "In %s %s.", w->name, w->slashes);
 }

@@ -35,6 +35,14 @@ uint32_t ask_rewriting(uint32_t source, const char *label, uint32_t target, stru
     return r.number;
 }
 
+int unit_of(const char *symbol)
+{
+    int unit = THALINGUZE_UNITS;
+    while (unit && strcmp(unit_words[unit].symbol, symbol) != 0)
+        unit--;
+    return unit;
+}
+
 const char *name_in(uint32_t notation, int unit)
 {
     const char *const names[] = {unit_words[unit].symbol, unit_words[unit].other};

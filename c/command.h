@@ -23,6 +23,7 @@ uint32_t ask(uint32_t notation, const char *label, uint8_t *record); /* reads; t
 bool accepts(uint32_t notation, const char *label);
 bool is_sound(uint32_t notation, const char *label, uint8_t *record); /* accepted, every unit known, every prefix lawful */
 uint32_t ask_rewriting(uint32_t source, const char *label, uint32_t target, struct text *result);
+int unit_of(const char *symbol);                  /* the code of a unit, or 0 */
 const char *name_in(uint32_t notation, int unit); /* the name of a unit, or NULL */
 struct text spelling_of(const char *label, const uint8_t *record, unsigned i);
 bool same_terms(const uint8_t *a, const uint8_t *b, bool units); /* the same k and exponents, and if asked the same prefixes and units */
@@ -32,23 +33,17 @@ void put_sixtieths(struct text *t, int64_t sixtieths);
 void say_term(struct text *t, const char *label, const uint8_t *record, unsigned i, int64_t exponent);
 void say_reading(struct text *t, const char *label, const uint8_t *record);
 void say_dimensions(struct text *t, const uint8_t *record);
-int base_unit(unsigned base);
 void say_size(struct text *t, const uint8_t *record);
 void say_fraction(struct text *t, int64_t n, int64_t d, int64_t k); /* n/d times ten to the k */
 
 /* signs.c: the label with signs replaced that no label has; false where one cannot be. The signs are named in the reasons. */
 bool replace_signs(uint32_t notation, const char *label, struct text *plain, struct text *reasons);
-const char *sign_name(char c);
+const struct sign_word *find_sign(unsigned code);
 
 /* habits.c: forms that a notation does not have, replaced by those that it has */
 enum habit { ENDS, FACTORS, JOINTS, POWERS, SPACES, HABITS };
 bool replace_habits(uint32_t notation, const char *label, struct text *result, bool used[HABITS]); /* whether it is accepted then */
-struct leading {
-    size_t length; /* of the numbers at the start of a label, with what joins them to the rest */
-    int k;
-    bool power_of_ten;
-};
-struct leading leading_number(const char *label);
+size_t leading_number(const char *label, int *k, bool *power_of_ten); /* its length, with what joins it to the rest, or 0 */
 size_t exponent_length(const char *label, size_t at, struct text *exponent); /* of an exponent after a unit that ends there, or 0 */
 char joint_in(uint32_t notation);
 void put_below(const char *label, char joint, struct text *result); /* with brackets round all that follows a slash in its group */

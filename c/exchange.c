@@ -18,11 +18,8 @@ static void blame_term(uint32_t source, const char *label, const uint8_t *record
     say_reading(&said, spelling.s, alone);
     if (ask(target, spelling.s, alone) == THALINGUZE_ACCEPTED)
         say_reading(&other, spelling.s, alone);
-    fprintf(stderr, "%s is %s in %s, ", spelling.s, said.s, here->name);
-    if (other.length)
-        fprintf(stderr, "but would be %s in %s.\n", other.s, there->name);
-    else
-        fprintf(stderr, "which %s does not have.\n", there->name);
+    fprintf(stderr, "%s is %s in %s, %s %s%s%s.\n", spelling.s, said.s, here->name, other.length ? "but would be" : "which", other.s,
+            other.length ? " in " : there->name, other.length ? there->name : " does not have");
 }
 
 int rewrite_label(uint32_t source, const char *label, uint32_t target)
@@ -30,19 +27,14 @@ int rewrite_label(uint32_t source, const char *label, uint32_t target)
     struct text result = {0};
     uint8_t record[THALINGUZE_RECORD_SIZE];
     uint32_t number = ask_rewriting(source, label, target, &result);
-    if (number == THALINGUZE_ACCEPTED) {
-        printf("%s\n", result.s);
-        return 0;
-    }
-    if (ask(source, label, record) != THALINGUZE_ACCEPTED) {
-        report_refusal(stderr, source, label, number);
-        return REFUSED;
-    }
-    fprintf(stderr, "Refused, number %u: the label %s in %s.\n", (unsigned)number,
-            number == THALINGUZE_NO_FORM ? "has no form" : "would have more than 255 bytes", notation_words[target].name);
+    ask(source, label, record);
+    if (number == THALINGUZE_ACCEPTED)
+        puts(result.s);
+    else
+        report_refusal(stderr, number < THALINGUZE_UNKNOWN_UNIT ? source : target, label, number);
     for (unsigned i = 0; i < thalinguze_count(record) && number == THALINGUZE_NO_FORM; i++)
         blame_term(source, label, record, i, target);
-    return REFUSED;
+    return number == THALINGUZE_ACCEPTED ? 0 : REFUSED;
 }
 
 /* what one of two labels has to do with the refusal of a conversion */
@@ -61,31 +53,24 @@ static void explain(const char *which, uint32_t notation, const char *label, uin
 
 int convert_labels(uint32_t first, const char *label, uint32_t second, const char *other, bool in_full)
 {
-    static const char *const conditions[] = {
-        [THALINGUZE_UNKNOWN_UNIT] = "a unit is unknown, and so is its size.",
-        [THALINGUZE_DIMENSIONS_DIFFER] = "the dimensions differ.",
-        [THALINGUZE_NO_FRACTION] = "the factor between the labels is a root, not a fraction.",
-        [THALINGUZE_FACTOR_OUT_OF_BOUNDS] = "the factor has more than 53 bits above or below its line, or a power of ten beyond 9999.",
-    };
     uint8_t record[THALINGUZE_CONVERSION_SIZE];
     struct text factor = {0};
-    uint32_t number = thalinguze_convert(first, (const uint8_t *)label, strlen(label), second, (const uint8_t *)other, strlen(other), record, sizeof record);
-    if (number == THALINGUZE_ACCEPTED) {
-        int64_t n = thalinguze_numerator(record), d = thalinguze_denominator(record), k = thalinguze_conversion_k(record);
-        say_fraction(&factor, n, d, k);
-        printf("1%s%s is %s%s%s.\n", *label ? " " : "", label, factor.s, *other ? " " : "", other);
-        if (k || in_full)
-            printf("n = %" PRId64 ", d = %" PRId64 ", k = %s%" PRId64 ": the factor is n/d times ten to the power k.\n", n, d, k < 0 ? "minus " : "", k < 0 ? -k : k);
-        return 0;
-    }
-    bool accepted = accepts(first, label);
-    if (number < THALINGUZE_UNKNOWN_UNIT) {
-        fprintf(stderr, "The %s label cannot be read.\n", accepted ? "second" : "first");
-        report_refusal(stderr, accepted ? second : first, accepted ? other : label, number);
+    uint32_t number = thalinguze_convert(first, (const uint8_t *)label, strlen(label), second, (const uint8_t *)other, strlen(other),
+                                         record, sizeof record);
+    if (number != THALINGUZE_ACCEPTED) {
+        bool of_second = number < THALINGUZE_UNKNOWN_UNIT && accepts(first, label);
+        if (number < THALINGUZE_UNKNOWN_UNIT)
+            fprintf(stderr, "The %s label cannot be read.\n", of_second ? "second" : "first");
+        report_refusal(stderr, of_second ? second : first, of_second ? other : label, number);
+        explain("first", first, label, number);
+        explain("second", second, other, number);
         return REFUSED;
     }
-    fprintf(stderr, "Refused, number %u: %s\n", (unsigned)number, conditions[number]);
-    explain("first", first, label, number);
-    explain("second", second, other, number);
-    return REFUSED;
+    int64_t n = thalinguze_numerator(record), d = thalinguze_denominator(record), k = thalinguze_conversion_k(record);
+    say_fraction(&factor, n, d, k);
+    printf("1%s%s is %s%s%s.\n", *label ? " " : "", label, factor.s, *other ? " " : "", other);
+    if (k || in_full)
+        printf("n = %" PRId64 ", d = %" PRId64 ", k = %s%" PRId64 ": the factor is n/d times ten to the power k.\n", n, d,
+               k < 0 ? "minus " : "", k < 0 ? -k : k);
+    return 0;
 }

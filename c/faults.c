@@ -15,20 +15,21 @@ void give_reason(struct text *reasons, const char *format, ...)
 
 bool blame_meaning(const char *label, struct text *reasons)
 {
-    struct leading number = leading_number(label);
     size_t before = reasons->length;
+    int k = 0;
+    bool power_of_ten = true;
+    size_t number = leading_number(label, &k, &power_of_ten);
     for (unsigned f = 0; f < FUNCTIONS; f++) {
-        size_t length = strlen(function_words[f]);
-        for (const char *at = label; (at = strstr(at, function_words[f])) != NULL; at++)
-            if ((at == label || !isalnum((unsigned char)at[-1])) && at[length + strspn(at + length, " ")] == '(')
-                give_reason(reasons, "Labels have no functions, and %s before a bracket is one. %s", function_words[f], strcmp(function_words[f], "sqrt") == 0
-                            ? "A root is the exponent 1/2 of each unit." : "Write the plain unit, and say outside the label what is taken of it.");
+        const char *name = function_words[f], *at = strstr(label, name);
+        if (at && (at == label || !isalnum((unsigned char)at[-1])) && at[strlen(name) + strspn(at + strlen(name), " ")] == '(')
+            give_reason(reasons, "Labels have no functions, and %s before a bracket is one. %s", name, strcmp(name, "sqrt") == 0
+                        ? "A root is the exponent 1/2 of each unit." : "Write the plain unit, and say outside the label what is taken of it.");
     }
     if (strpbrk(label, "[]"))
         give_reason(reasons, "Labels have no square brackets. For a logarithm write the plain unit, and say log outside the label.");
-    if (number.length && label[number.length] == 0)
+    if (number && label[number] == 0)
         give_reason(reasons, "A number alone is no label. Where there is no unit, the label is empty.");
-    else if (number.length && !number.power_of_ten)
+    else if (!power_of_ten)
         give_reason(reasons, "The only numbers before a unit are powers of ten. Take this one out and multiply the values by it.");
     return reasons->length > before;
 }
@@ -43,26 +44,20 @@ void blame_forms(uint32_t notation, const char *label, struct text *reasons)
         put(&metre, "m%.*s", (int)size, at);
         open += (*at == '(') - (*at == ')');
         if (!isalnum((unsigned char)*at) && *at != ' ' && !strchr(w->signs, *at))
-            give_reason(reasons, "No %s label has %s.", w->name, sign_name(*at));
+            give_reason(reasons, "No %s label has %s.", w->name, find_sign((unsigned char)*at)->name);
         if (size && exponent.s[strspn(exponent.s, "+-")] == '0')
             give_reason(reasons, "An exponent does not start with 0.");
         else if (size && !accepts(notation, metre.s))
             give_reason(reasons, "In %s %s.", w->name, w->powers);
         if (*at == '-' && !isdigit((unsigned char)at[1]))
             give_reason(reasons, "A hyphen is only the minus sign of a number.");
-        if ((strchr("/.", *at) && at[1] && strchr("/.*)", at[1])) || (at == label && strchr(".*", *at)))
-            give_reason(reasons, "A slash, a star or a point needs a unit on both sides.");
-        if (strchr("/.*^", *at) && at[1] == 0)
-            give_reason(reasons, "The label ends where something must follow.");
         if (*at == '/' && isdigit((unsigned char)at[1]) && open == 0)
             give_reason(reasons, "No number comes after a slash. An exponent that is a fraction is in brackets.");
         if (*at == ')' && at[1] && !isdigit((unsigned char)at[-1]) && (strchr("^+-0123456789", at[1]) || strncmp(at + 1, "**", 2) == 0))
             give_reason(reasons, "A group takes no exponent. Give each unit in it its own.");
     }
-    if (strchr(label, '\'') && strchr(w->signs, '\''))
-        give_reason(reasons, "Between quotes there are letters alone, and before them at most a prefix.");
     if (open)
         give_reason(reasons, "A bracket has no partner.");
-    if (strstr(label, "()"))
-        give_reason(reasons, "A pair of brackets is empty.");
+    if (reasons->length == 0)
+        give_reason(reasons, "A sign or a unit is out of place or missing.");
 }

@@ -72,7 +72,7 @@ static size_t power_length(const char *s, struct text *exponent)
         length += 1 + strspn(s + at + length + 1, DIGITS);
     if (bracket && s[at + length] != ')')
         return 0;
-    if (strncmp(s + at + length - 3, "0.5", 3) == 0 && length <= 4)
+    if (length == 3u + is_one_of(s[at], "+-") && strncmp(s + at + length - 3, "0.5", 3) == 0)
         put(exponent, "%s1/2", s[at] == '-' ? "-" : "");
     else
         put(exponent, "%.*s", (int)length, s + at);
@@ -86,29 +86,30 @@ size_t exponent_length(const char *label, size_t at, struct text *exponent)
     return isalnum((unsigned char)*after) || is_one_of(*after, "(^+-'%") || strncmp(after, "**", 2) == 0 ? 0 : length; /* else it is no exponent */
 }
 
-struct leading leading_number(const char *s)
+size_t leading_number(const char *s, int *k, bool *power_of_ten)
 {
     struct text exponent = {0};
     size_t whole = strspn(s, DIGITS), end = whole, one = strspn(s, "0."), power = 0;
     if (whole == 0)
-        return (struct leading){0, 0, false};
+        return 0;
     if (whole == 2 && strncmp(s, "10", 2) == 0)
         power = power_length(s + 2, &exponent);
     if (s[end] == '.' && is_one_of(s[end + 1], DIGITS "eE"))
         end += 1 + strspn(s + end + 1, DIGITS);
-    struct leading l = {end, one < whole ? (int)(whole - one) - 1 : (int)whole - (int)one, one < end && s[one] == '1'};
-    l.power_of_ten &= one + 1 + strspn(s + one + 1, "0.") >= end;
-    if (power && !strpbrk(exponent.s, "./"))
-        l = (struct leading){2 + power, atoi(exponent.s), true};
-    else if (is_one_of(s[end], "eE") && starts_integer(s + end + 1)) {
-        l.k += atoi(s + end + 1);
-        l.length = end + 2 + strspn(s + end + 2, DIGITS);
+    *power_of_ten = one < end && s[one] == '1' && one + 1 + strspn(s + one + 1, "0.") >= end;
+    *k = one < whole ? (int)(whole - one) - 1 : (int)whole - (int)one;
+    if (power && !strpbrk(exponent.s, "./")) {
+        *k = (int)strtol(exponent.s, NULL, 10);
+        end = 2 + power;
+    } else if (is_one_of(s[end], "eE") && starts_integer(s + end + 1)) {
+        *k += (int)strtol(s + end + 1, NULL, 10) % 10000; /* too large to be accepted, and small enough to be added */
+        end += 2 + strspn(s + end + 2, DIGITS);
     }
-    l.length += strspn(s + l.length, " ");
-    if (is_one_of(s[l.length], "*."))
-        l.length += 1 + strspn(s + l.length + 1, " ");
-    l.power_of_ten &= !is_one_of(s[l.length], DIGITS "*^.+-");
-    return l;
+    end += strspn(s + end, " ");
+    if (is_one_of(s[end], "*."))
+        end += 1 + strspn(s + end + 1, " ");
+    *power_of_ten &= !is_one_of(s[end], DIGITS "*^.+-");
+    return end;
 }
 
 /* THE REPLACEMENTS */
@@ -142,13 +143,14 @@ static void replace_spaces(uint32_t notation, const char *s, struct text *to)
 /* a power of ten at the start */
 static void replace_factors(uint32_t notation, const char *s, struct text *to)
 {
-    struct leading l = leading_number(s);
     struct text as_it_is = {0}, in_ogip = {0};
-    put(&as_it_is, "%.*sm", (int)l.length, s);
-    put(&in_ogip, l.k ? "10**%d m" : "m", l.k);
-    if (l.length == 0 || !l.power_of_ten || accepts(notation, as_it_is.s) || !put_beside_metre(notation, in_ogip.s, false, to))
-        l.length = 0;
-    put(to, "%s", s + l.length);
+    int k = 0;
+    bool power_of_ten = false;
+    size_t length = leading_number(s, &k, &power_of_ten);
+    put(&as_it_is, "%.*sm", (int)length, s);
+    put(&in_ogip, k ? "10**%d m" : "m", k);
+    bool written = power_of_ten && !accepts(notation, as_it_is.s) && put_beside_metre(notation, in_ogip.s, false, to);
+    put(to, "%s", s + (written ? length : 0));
 }
 
 /* signs that join units */

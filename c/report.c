@@ -50,7 +50,7 @@ static void print_size(const uint8_t *record, bool in_full)
     for (unsigned i = 0; i < thalinguze_count(record); i++) {
         bool base = false;
         for (unsigned b = 0; b < THALINGUZE_BASES; b++)
-            base |= base_unit(b) == thalinguze_term_unit(record, i);
+            base |= unit_of(base_symbols[b]) == thalinguze_term_unit(record, i);
         repeats &= base && thalinguze_term_prefix(record, i) == THALINGUZE_PREFIX_NONE;
     }
     say_size(&size, record);
@@ -97,22 +97,28 @@ void report_reading(uint32_t notation, const char *label, const uint8_t *record,
 
 void report_refusal(FILE *out, uint32_t notation, const char *label, uint32_t number)
 {
-    static const char *const conditions[] = {
-        [THALINGUZE_TOO_LONG] = "the label has more than 255 bytes.",
-        [THALINGUZE_BYTE_OUT_OF_RANGE] = "the label has signs that are not plain ASCII.",
+    static const char *const conditions[] = { /* those that end in a space go on with the notation's name */
+        [THALINGUZE_TOO_LONG] = "the label has more than 255 bytes",
+        [THALINGUZE_BYTE_OUT_OF_RANGE] = "the label has signs that are not plain ASCII",
         [THALINGUZE_NOT_IN_GRAMMAR] = "the label does not follow the rules of ",
-        [THALINGUZE_NUMBER_OUT_OF_BOUNDS] = "a number is out of bounds.\nExponents and powers of ten go from minus 99 to 99, with at most 4 digits in a row."
-            "\nAn exponent may have parts that divide 60: halves, thirds, quarters, fifths, sixths and so on.",
-        [THALINGUZE_TOO_DEEP] = "more than 8 brackets are open at once.\nTake brackets away.",
-        [THALINGUZE_TOO_MANY_TERMS] = "the label has more than 32 terms.\nWrite a unit that comes several times once, with an exponent.",
+        [THALINGUZE_NUMBER_OUT_OF_BOUNDS] = "a number is out of bounds.\nExponents and powers of ten go from minus 99 to 99, with at most 4 digits "
+            "in a row.\nAn exponent may have parts that divide 60: halves, thirds, quarters, fifths, sixths and so on",
+        [THALINGUZE_TOO_DEEP] = "more than 8 brackets are open at once.\nTake brackets away",
+        [THALINGUZE_TOO_MANY_TERMS] = "the label has more than 32 terms.\nWrite a unit that comes several times once, with an exponent",
+        [THALINGUZE_UNKNOWN_UNIT] = "a unit is unknown, and so is its size",
+        [THALINGUZE_DIMENSIONS_DIFFER] = "the dimensions differ",
+        [THALINGUZE_NO_FRACTION] = "the factor between the labels is a root, not a fraction",
+        [THALINGUZE_FACTOR_OUT_OF_BOUNDS] = "the factor has more than 53 bits above or below its line, or a power of ten beyond 9999",
+        [THALINGUZE_NO_FORM] = "the label has no form in ",
+        [THALINGUZE_RESULT_TOO_LONG] = "the label would have more than 255 bytes in ",
     };
     const struct notation_word *w = &notation_words[notation];
-    bool rules = number == THALINGUZE_NOT_IN_GRAMMAR;
     struct advice a;
-    fprintf(out, "Refused, number %u: %s%s%s\n", (unsigned)number, conditions[number], rules ? w->name : "", rules ? "." : "");
+    bool named = conditions[number][strlen(conditions[number]) - 1] == ' ';
+    fprintf(out, "Refused, number %u: %s%s.\n", (unsigned)number, conditions[number], named ? w->name : "");
     advise(&a, notation, label, number);
     fputs(a.reasons.s, out);
     print_suggestions(out, &a);
-    if (rules && a.count == 0)
+    if (number == THALINGUZE_NOT_IN_GRAMMAR && a.count == 0)
         fprintf(out, "Labels of %s look like these: %s; %s; %s\n", w->name, w->examples[0], w->examples[1], w->examples[2]);
 }

@@ -49,30 +49,22 @@ void say_reading(struct text *t, const char *label, const uint8_t *record)
         put(t, "a plain number, without a unit");
 }
 
-int base_unit(unsigned base)
-{
-    int unit = 1;
-    while (strcmp(unit_words[unit].symbol, base_symbols[base]) != 0)
-        unit++;
-    return unit;
-}
-
 /* the bases of one sign, those below the line each after "per" */
-static void say_bases(struct text *t, const uint8_t *record, bool below, bool several)
+static void say_bases(struct text *t, const uint8_t *record, bool below)
 {
     for (unsigned b = 0; b < THALINGUZE_BASES; b++) {
         int64_t exponent = thalinguze_dimension(record, b);
         if (exponent == 0 || (exponent < 0) != below)
             continue;
-        put(t, "%s%s%s%s", t->length ? " " : "", below ? "per " : "", unit_words[base_unit(b)].word, several ? "s" : "");
+        put(t, "%s%s%s", t->length ? " " : "", below ? "per " : "", unit_words[unit_of(base_symbols[b])].word);
         say_power(t, below ? -exponent : exponent);
     }
 }
 
 void say_dimensions(struct text *t, const uint8_t *record)
 {
-    say_bases(t, record, false, false);
-    say_bases(t, record, true, false);
+    say_bases(t, record, false);
+    say_bases(t, record, true);
     put(t, "%s", t->length ? "" : "none");
 }
 
@@ -125,26 +117,13 @@ static bool plain_scale(const uint8_t *record, int64_t *n, int64_t *d, int64_t *
     return plain;
 }
 
-/* the name of the base above the line, if there is just one, with exponent 1, so that it can be counted; else NULL */
-static const char *countable_base(const uint8_t *record)
-{
-    const char *word = NULL;
-    for (unsigned b = 0; b < THALINGUZE_BASES; b++) {
-        if (thalinguze_dimension(record, b) > 0 && (word || thalinguze_dimension(record, b) != THALINGUZE_SIXTIETHS))
-            return NULL;
-        word = thalinguze_dimension(record, b) > 0 ? unit_words[base_unit(b)].word : word;
-    }
-    return word && strchr(word, ' ') ? NULL : word;
-}
-
 void say_size(struct text *t, const uint8_t *record)
 {
     struct text number = {0}, above = {0};
     int64_t n, d, k;
     bool plain = plain_scale(record, &n, &d, &k);
-    const char *base = plain ? countable_base(record) : NULL;
     fold(&n, &d, &k);
-    bool part = plain && (k < 0 || (k == 0 && n < d)), one = plain && n == 1 && d == 1 && k == 0;
+    bool part = k < 0 || (k == 0 && n < d), one = plain && n == 1 && d == 1 && k == 0;
     if (plain)
         say_fraction(&number, n, d, k);
     for (unsigned p = 0; p < THALINGUZE_PRIMES && !plain; p++)
@@ -152,10 +131,12 @@ void say_size(struct text *t, const uint8_t *record)
             put(&number, "%s%d", number.length ? " times " : "", prime_words[p]);
             say_power(&number, thalinguze_scale(record, p));
         }
-    say_bases(&above, record, false, base && !part && !one);
-    if (base || above.length == 0)
-        put(t, "%s%s%s", number.s, !base ? "" : !part ? " " : strchr("aeiou", base[0]) ? " of an " : " of a ", above.s);
-    else
+    say_bases(&above, record, false);
+    if (above.length == 0)
+        put(t, "%s", number.s);
+    else if (strchr(above.s, ' ') || !plain) /* no single base that can be counted */
         put(t, "%s%s%s", one ? "" : number.s, one ? "" : " times ", above.s);
-    say_bases(t, record, true, false);
+    else
+        put(t, "%s%s%s%s", number.s, !part ? " " : strchr("aeiou", above.s[0]) ? " of an " : " of a ", above.s, part || one ? "" : "s");
+    say_bases(t, record, true);
 }

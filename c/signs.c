@@ -17,7 +17,7 @@ static unsigned decode(const char *s, size_t *length)
     return code;
 }
 
-static const struct sign_word *find_sign(unsigned code)
+const struct sign_word *find_sign(unsigned code)
 {
     for (unsigned i = 0; i < SIGNS; i++)
         if (sign_words[i].code == code)
@@ -25,18 +25,15 @@ static const struct sign_word *find_sign(unsigned code)
     return NULL;
 }
 
-const char *sign_name(char c)
-{
-    return find_sign((unsigned char)c) ? find_sign((unsigned char)c)->name : "a sign";
-}
-
 /* adds a sign's name to a list of them, once */
 static void add_name(struct text *names, const struct sign_word *sign, unsigned code)
 {
     struct text name = {0};
-    put(&name, sign ? "%.99s" : code < 0x100 ? "the byte hexadecimal %.0s%02X" : "the character with the Unicode number %.0s%X", sign ? sign->name : "", code);
-    const char *found = strstr(names->s, name.s);
-    if (!found || !strchr(",", found[name.length]))
+    if (sign)
+        put(&name, "%s", sign->name);
+    else
+        put(&name, code < 0x100 ? "the byte hexadecimal %02X" : "the character with the Unicode number %X", code);
+    if (!strstr(names->s, name.s))
         put(names, "%s%s", names->length ? ", " : "", name.s);
 }
 
@@ -53,11 +50,11 @@ bool replace_signs(uint32_t notation, const char *label, struct text *plain, str
             continue;
         }
         add_name(&names, sign, code);
+        const char *instead = sign && sign->instead ? sign->instead : "", *name = name_in(notation, unit_of(instead));
         replaced &= sign && sign->instead;
-        const char *name = sign && sign->unit ? name_in(notation, sign->unit) : NULL;
         if (sign && strstr(sign->name, "superscript") && at > 0 && isdigit((unsigned char)label[at - 1]))
             put(plain, "**"); /* the exponent of a power of ten */
-        put(plain, "%s", name ? name : sign && sign->unit ? unit_words[sign->unit].symbol : sign && sign->instead ? sign->instead : "");
+        put(plain, "%s", name ? name : instead);
     }
     if (names.length)
         put(reasons, "No label has %s.\n", names.s);

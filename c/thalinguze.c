@@ -33,10 +33,8 @@ static const char help[] =
     "--vectors reads lines from standard input: a notation number (1 FITS, 2 OGIP,\n"
     "3 CDS, 4 VOUnits), a space and the label's bytes in hexadecimal, or - for the\n"
     "empty label; for convert, a space and the same again. It prints each line with\n"
-    "its answer, and names malformed lines on standard error. read: refusal number,\n"
-    "k= power of ten, known, lawful, recommended (y or n), place=0, [terms],\n"
-    "{dimensions}, exponents of 2, 3, 5 and 487 in the scale. convert: refusal\n"
-    "number, n, d and k; the factor is n/d times ten to the power k.\n"
+    "its answer, in the formats of vectors/README.md, and names malformed lines on\n"
+    "standard error.\n"
     "  printf '3 6b672f6d2e73\\n' | thalinguze read --vectors\n";
 
 static int wrong_call(const char *what)
@@ -54,23 +52,20 @@ static uint32_t notation_of(const char *name)
     return 0;
 }
 
-static int read_label(uint32_t notation, const char *label, bool in_full)
-{
-    uint8_t record[THALINGUZE_RECORD_SIZE];
-    uint32_t number = ask(notation, label, record);
-    if (number == THALINGUZE_ACCEPTED)
-        report_reading(notation, label, record, in_full);
-    else
-        report_refusal(stdout, notation, label, number);
-    return number == THALINGUZE_ACCEPTED ? 0 : REFUSED;
-}
-
-static int read_in_all(const char *label, bool in_full)
+/* reads a label in the notations from the first to the last */
+static int read_label(uint32_t first, uint32_t last, const char *label, bool in_full)
 {
     int status = REFUSED;
-    for (uint32_t n = 1; n <= NOTATIONS; n++) {
-        printf("%sIn %s: ", n > 1 ? "\n" : "", notation_words[n].name);
-        status &= read_label(n, label, in_full);
+    for (uint32_t n = first; n <= last; n++) {
+        uint8_t record[THALINGUZE_RECORD_SIZE];
+        uint32_t number = ask(n, label, record);
+        if (first < last)
+            printf("%sIn %s: ", n > first ? "\n" : "", notation_words[n].name);
+        if (number == THALINGUZE_ACCEPTED)
+            report_reading(n, label, record, in_full);
+        else
+            report_refusal(stdout, n, label, number);
+        status = number == THALINGUZE_ACCEPTED ? 0 : status;
     }
     return status;
 }
@@ -79,7 +74,8 @@ static int read_in_all(const char *label, bool in_full)
 static int run_command(int count, char **words, bool in_full)
 {
     static const char *const names[] = {"read", "rewrite", "convert", "list"};
-    static const char *const calls[] = {"a notation and a label", "a notation, a label and a notation", "a notation and a label, twice", "a notation"};
+    static const char *const calls[] = {"a notation and a label", "a notation, a label and a notation", "a notation and a label, twice",
+                                        "a notation"};
     static const int counts[] = {3, 4, 5, 2};
     int c = 0;
     while (c < 4 && strcmp(words[0], names[c]) != 0)
@@ -94,11 +90,11 @@ static int run_command(int count, char **words, bool in_full)
         return wrong_call(call.s);
     }
     if (c == 0 && strcasecmp(words[1], "all") == 0)
-        return read_in_all(words[2], in_full);
+        return read_label(1, NOTATIONS, words[2], in_full);
     uint32_t from = notation_of(words[1]), to = c == 1 || c == 2 ? notation_of(words[3]) : from;
     if (from == 0 || to == 0)
         return wrong_call("there is no such notation; the notations are fits, ogip, cds and vou");
-    return c == 0 ? read_label(from, words[2], in_full) : c == 1 ? rewrite_label(from, words[2], to)
+    return c == 0 ? read_label(from, from, words[2], in_full) : c == 1 ? rewrite_label(from, words[2], to)
          : c == 2 ? convert_labels(from, words[2], to, words[4], in_full) : list_units(from);
 }
 

@@ -4,52 +4,33 @@
 #include <stdlib.h>
 #include "command.h"
 
-/* a notation number and a label in hexadecimal, which is decoded in place */
+/* a notation number and a label, in hexadecimal until it is decoded in place */
 struct given {
     uint32_t notation;
     uint8_t *label;
     size_t size;
 };
 
-/* a notation number in decimal; one that does not fit becomes 0, which is no notation either */
-static bool read_number(const char *text, size_t size, uint32_t *number)
+/* takes a number, a space and pairs of hexadecimal digits, or a hyphen for none; where that ends, or NULL if it is malformed */
+static char *take(char *line, struct given *g)
 {
-    bool negative = size > 0 && text[0] == '-';
-    uint64_t value = 0;
-    for (size_t i = negative; i < size; i++) {
-        if (text[i] < '0' || text[i] > '9')
-            return false;
-        value = value > UINT32_MAX ? value : value * 10 + (uint64_t)(text[i] - '0');
-    }
-    *number = value <= UINT32_MAX && !negative ? (uint32_t)value : 0;
-    return size > (size_t)negative;
-}
-
-static int hex_digit(char c)
-{
-    static const char digits[] = "0123456789abcdef0123456789ABCDEF";
-    return c && strchr(digits, c) ? (int)(strchr(digits, c) - digits) % 16 : -1;
-}
-
-/* takes a number, a space and bytes, or a hyphen for none, from the start of a line, up to a space or its end; NULL if it is malformed */
-static char *take(char *line, char *end, struct given *g)
-{
-    char *space = memchr(line, ' ', (size_t)(end - line));
-    if (!space || !read_number(line, (size_t)(space - line), &g->notation))
+    char *number = line + (*line == '-'), *hex = number + strspn(number, "0123456789") + 1;
+    if (hex == number + 1 || hex[-1] != ' ')
         return NULL;
-    char *hex = space + 1, *stop = memchr(hex, ' ', (size_t)(end - hex));
-    stop = stop ? stop : end;
+    unsigned long long value = strtoull(number, NULL, 10);
+    size_t digits = strspn(hex, "0123456789abcdefABCDEF");
+    g->notation = *line != '-' && value <= UINT32_MAX ? (uint32_t)value : 0; /* 0 is no notation either */
     g->label = (uint8_t *)hex;
-    g->size = (size_t)(stop - hex) / 2;
-    if (stop == hex + 1 && *hex == '-')
-        return stop;
+    g->size = digits / 2;
+    return *hex == '-' ? hex + 1 : digits && digits % 2 == 0 ? hex + digits : NULL;
+}
+
+static void decode(struct given *g)
+{
     for (size_t i = 0; i < g->size; i++) {
-        int high = hex_digit(hex[2 * i]), low = hex_digit(hex[2 * i + 1]);
-        if (high < 0 || low < 0)
-            return NULL;
-        g->label[i] = (uint8_t)(high * 16 + low);
+        const char pair[] = {(char)g->label[2 * i], (char)g->label[2 * i + 1], 0};
+        g->label[i] = (uint8_t)strtoul(pair, NULL, 16);
     }
-    return stop > hex && (stop - hex) % 2 == 0 ? stop : NULL;
 }
 
 static void put_term(struct text *t, const struct given *g, const uint8_t *record, unsigned i)
@@ -76,8 +57,8 @@ static void put_reading(struct text *t, const struct given *g)
     uint8_t record[THALINGUZE_RECORD_SIZE] = {0};
     unsigned order[THALINGUZE_BASES], count = 0;
     uint32_t number = thalinguze_read(g->notation, g->label, g->size, record, sizeof record);
-    put(t, " %u k=%d %c%c%c place=0 [", (unsigned)number, thalinguze_k(record), "ny"[thalinguze_known(record)], "ny"[thalinguze_lawful(record)],
-        "ny"[thalinguze_recommended(record)]);
+    put(t, " %u k=%d %c%c%c place=0 [", (unsigned)number, thalinguze_k(record), "ny"[thalinguze_known(record)],
+        "ny"[thalinguze_lawful(record)], "ny"[thalinguze_recommended(record)]);
     for (unsigned i = 0; i < thalinguze_count(record); i++)
         put_term(t, g, record, i);
     for (unsigned b = 0; b < THALINGUZE_BASES; b++)
@@ -100,51 +81,44 @@ static void put_conversion(struct text *t, const struct given *g, const struct g
 {
     uint8_t record[THALINGUZE_CONVERSION_SIZE];
     uint32_t number = thalinguze_convert(g->notation, g->label, g->size, h->notation, h->label, h->size, record, sizeof record);
-    if (number == THALINGUZE_ACCEPTED)
-        put(t, " 0 %" PRId64 " %" PRId64 " %d", thalinguze_numerator(record), thalinguze_denominator(record), thalinguze_conversion_k(record));
-    else
-        put(t, " %u 0 1 0", (unsigned)number);
+    int64_t n = number ? 0 : thalinguze_numerator(record), d = number ? 1 : thalinguze_denominator(record);
+    put(t, " %u %" PRId64 " %" PRId64 " %d", (unsigned)number, n, d, number ? 0 : thalinguze_conversion_k(record));
 }
 
 /* prints a line with the answer; false if it is malformed */
-static bool print_line(const char *line, size_t size, bool converting)
+static bool print_line(char *line, const char *end, bool converting)
 {
-    struct given first, second;
+    struct given first, second = {0};
     struct text answer = {0};
-    char *copy = malloc(size + 1), *end = copy + size;
-    if (!copy) {
-        perror("thalinguze");
-        exit(WRONG_CALL);
-    }
-    memcpy(copy, line, size + 1);
-    char *rest = take(copy, end, &first);
+    char *rest = take(line, &first);
     if (rest && converting)
-        rest = rest < end ? take(rest + 1, end, &second) : NULL;
-    bool good = rest == end;
-    if (good && converting)
+        rest = *rest == ' ' ? take(rest + 1, &second) : NULL;
+    if (rest != end)
+        return false;
+    fputs(line, stdout);
+    decode(&first);
+    decode(&second);
+    if (converting)
         put_conversion(&answer, &first, &second);
-    else if (good)
+    else
         put_reading(&answer, &first);
-    free(copy);
-    if (good)
-        printf("%s%s\n", line, answer.s);
-    return good;
+    puts(answer.s);
+    return true;
 }
 
 int print_vectors(bool converting)
 {
     char *line = NULL;
-    size_t room = 0, number = 0;
+    size_t room = 0;
     int status = 0;
     ssize_t size;
     setvbuf(stdout, NULL, _IOLBF, 0); /* an answer to each line at once, for a program that waits for it */
-    while (!ferror(stdout) && (size = getline(&line, &room, stdin)) >= 0) {
-        number++;
+    for (size_t number = 1; !ferror(stdout) && (size = getline(&line, &room, stdin)) >= 0; number++) {
         if (line[size - 1] == '\n')
             line[--size] = 0;
-        if (!print_line(line, (size_t)size, converting)) {
-            fprintf(stderr, "thalinguze: line %zu is malformed: it needs a notation number, one space, and bytes in hexadecimal or -%s\n", number,
-                    converting ? ", one space, and the same again" : "");
+        if (!print_line(line, line + size, converting)) {
+            fprintf(stderr, "thalinguze: line %zu is malformed: it needs a notation number, one space, and bytes in hexadecimal or -%s\n",
+                    number, converting ? ", one space, and the same again" : "");
             status = WRONG_CALL;
         }
     }

@@ -51,18 +51,18 @@ struct unit_word {
 };
 
 static const struct unit_word unit_words[THALINGUZE_UNITS + 1] = {
-    {"?", "unknown", 0},
-    {"m", "metre", 0}, {"g", "gram", 0}, {"s", "second", 0}, {"A", "ampere", 0}, {"K", "kelvin", 0}, {"mol", "mole", 0},
-    {"cd", "candela", 0}, {"rad", "radian", 0}, {"sr", "steradian", 0}, {"Hz", "hertz", 0}, {"N", "newton", 0}, {"Pa", "pascal", 0},
-    {"J", "joule", 0}, {"W", "watt", 0}, {"C", "coulomb", 0}, {"V", "volt", 0}, {"S", "siemens", 0}, {"F", "farad", 0}, {"Wb", "weber", 0},
-    {"T", "tesla", 0}, {"H", "henry", 0}, {"lm", "lumen", 0}, {"lx", "lux", 0}, {"min", "minute", 0}, {"h", "hour", 0}, {"d", "day", 0},
-    {"yr", "year", "a"}, {"deg", "degree", 0}, {"arcmin", "arcminute", 0}, {"arcsec", "arcsecond", 0}, {"AU", "astronomical unit", 0},
-    {"pc", "parsec", 0}, {"eV", "electronvolt", 0}, {"Jy", "jansky", 0}, {"barn", "barn", 0}, {"mag", "magnitude", 0}, {"byte", "byte", 0},
-    {"mas", "milliarcsecond", 0}, {"pixel", "pixel", "pix"}, {"count", "count", "ct"}, {"Ry", "rydberg", 0}, {"solMass", "solar mass", 0},
-    {"solLum", "solar luminosity", 0}, {"solRad", "solar radius", 0}, {"D", "debye", 0}, {"Sun", "Sun", 0}, {"bit", "bit", 0},
-    {"ohm", "ohm", "Ohm"}, {"erg", "erg", 0}, {"G", "gauss", 0}, {"lyr", "light year", 0}, {"photon", "photon", "ph"},
-    {"chan", "channel", 0}, {"bin", "bin", 0}, {"voxel", "voxel", 0}, {"u", "atomic mass unit", 0}, {"R", "rayleigh", 0},
-    {"adu", "analogue-to-digital unit", 0}, {"beam", "beam", 0}, {"angstrom", "angstrom", "Angstrom"}, {"%", "percent", 0},
+    {"?", "unknown", 0}, {"m", "metre", 0}, {"g", "gram", 0}, {"s", "second", 0}, {"A", "ampere", 0}, {"K", "kelvin", 0},
+    {"mol", "mole", 0}, {"cd", "candela", 0}, {"rad", "radian", 0}, {"sr", "steradian", 0}, {"Hz", "hertz", 0}, {"N", "newton", 0},
+    {"Pa", "pascal", 0}, {"J", "joule", 0}, {"W", "watt", 0}, {"C", "coulomb", 0}, {"V", "volt", 0}, {"S", "siemens", 0}, {"F", "farad", 0},
+    {"Wb", "weber", 0}, {"T", "tesla", 0}, {"H", "henry", 0}, {"lm", "lumen", 0}, {"lx", "lux", 0}, {"min", "minute", 0}, {"h", "hour", 0},
+    {"d", "day", 0}, {"yr", "year", "a"}, {"deg", "degree", 0}, {"arcmin", "arcminute", 0}, {"arcsec", "arcsecond", 0},
+    {"AU", "astronomical unit", 0}, {"pc", "parsec", 0}, {"eV", "electronvolt", 0}, {"Jy", "jansky", 0}, {"barn", "barn", 0},
+    {"mag", "magnitude", 0}, {"byte", "byte", 0}, {"mas", "milliarcsecond", 0}, {"pixel", "pixel", "pix"}, {"count", "count", "ct"},
+    {"Ry", "rydberg", 0}, {"solMass", "solar mass", 0}, {"solLum", "solar luminosity", 0}, {"solRad", "solar radius", 0}, {"D", "debye", 0},
+    {"Sun", "Sun", 0}, {"bit", "bit", 0}, {"ohm", "ohm", "Ohm"}, {"erg", "erg", 0}, {"G", "gauss", 0}, {"lyr", "light year", 0},
+    {"photon", "photon", "ph"}, {"chan", "channel", 0}, {"bin", "bin", 0}, {"voxel", "voxel", 0}, {"u", "atomic mass unit", 0},
+    {"R", "rayleigh", 0}, {"adu", "analogue-to-digital unit", 0}, {"beam", "beam", 0}, {"angstrom", "angstrom", "Angstrom"},
+    {"%", "percent", 0},
 };
 
 /* The bases, each a unit of its own, and the primes of a scale. */
@@ -74,7 +74,7 @@ static const int prime_words[THALINGUZE_PRIMES] = {2, 3, 5, 487};
 
 /* Spellings that no notation has, and a usual one of the same unit. Capitals, full names and a plural s are seen to in spelling.c. */
 static const char *const spelling_words[][2] = {
-    {"sec", "s"}, {"hr", "h"}, {"meter", "m"}, {"kilometer", "km"}, {"micron", "um"}, {"cts", "count"}, {"cnt", "count"}, {"px", "pixel"},
+    {"sec", "s"}, {"hr", "h"}, {"meter", "m"}, {"micron", "um"}, {"cts", "count"}, {"cnt", "count"}, {"px", "pixel"},
     {"phot", "photon"}, {"ly", "lyr"}, {"Ang", "angstrom"}, {"Msun", "solMass"}, {"Lsun", "solLum"}, {"Rsun", "solRad"}, {"B", "byte"},
     {"asec", "arcsec"}, {"amin", "arcmin"}, {"bm", "beam"}, {"amu", "u"}, {"ster", "sr"},
 };
@@ -84,38 +84,33 @@ enum { SPELLINGS = sizeof spelling_words / sizeof spelling_words[0] };
 static const char *const function_words[] = {"log10", "log", "ln", "lg", "exp", "sqrt", "dex", "dB", "mag", "sin", "cos", "tan", "abs"};
 enum { FUNCTIONS = sizeof function_words / sizeof function_words[0] };
 
-/* Signs by their Unicode number: the name, and what is written for it in labels, or NULL. */
+/* Signs by their Unicode number: the name, and what labels have instead, a unit by its symbol, or NULL. */
 static const struct sign_word {
     unsigned code;
     const char *name, *instead;
-    int unit; /* whose name is written, or 0 */
 } sign_words[] = {
-    {0x9, "a tab", " ", 0}, {0xa, "the end of a line", " ", 0}, {0xd, "a carriage return", " ", 0}, {' ', "a space", 0, 0},
-    {'!', "an exclamation mark", 0, 0}, {'"', "a double quote", 0, 0}, {'#', "a number sign", 0, 0}, {'$', "a dollar sign", "", 0},
-    {'%', "a percent sign", 0, 0}, {'&', "an ampersand", 0, 0}, {'\'', "a quote", 0, 0}, {'(', "a bracket", 0, 0}, {')', "a bracket", 0, 0},
-    {'*', "a star", 0, 0}, {'+', "a plus sign", 0, 0}, {',', "a comma", 0, 0}, {'-', "a hyphen", 0, 0}, {'.', "a point", 0, 0},
-    {'/', "a slash", 0, 0}, {':', "a colon", 0, 0}, {';', "a semicolon", 0, 0}, {'<', "a less-than sign", 0, 0}, {'=', "an equals sign", 0, 0},
-    {'>', "a greater-than sign", 0, 0}, {'?', "a question mark", 0, 0}, {'@', "an at sign", 0, 0}, {'[', "a square bracket", 0, 0},
-    {'\\', "a backslash", 0, 0}, {']', "a square bracket", 0, 0}, {'^', "a caret", 0, 0}, {'_', "an underscore", 0, 0},
-    {'`', "a grave accent", 0, 0}, {'{', "a curly bracket", "(", 0}, {'|', "a vertical bar", 0, 0}, {'}', "a curly bracket", ")", 0},
-    {'~', "a tilde", 0, 0}, {0xa0, "a non-breaking space", " ", 0}, {0x2009, "a thin space", " ", 0}, {0x202f, "a narrow non-breaking space", " ", 0},
-    {0x2002, "an en space", " ", 0}, {0x2003, "an em space", " ", 0}, {0x200a, "a hair space", " ", 0}, {0x200b, "a space of no width", "", 0},
-    {0xfeff, "a byte order mark", "", 0}, {0xb5, "a micro sign", "u", 0}, {0x3bc, "the Greek letter mu", "u", 0},
-    {0xb7, "a raised point", ".", 0}, {0x22c5, "a raised point", ".", 0}, {0x2022, "a bullet", ".", 0}, {0x2219, "a bullet", ".", 0},
-    {0xd7, "a multiplication sign", "*", 0}, {0x2217, "a star sign", "*", 0}, {0x2215, "a division slash", "/", 0},
-    {0x2044, "a fraction slash", "/", 0}, {0xf7, "a division sign", "/", 0}, {0x2212, "a minus sign", "-", 0}, {0x2010, "a typeset hyphen", "-", 0},
-    {0x2011, "a non-breaking hyphen", "-", 0}, {0x2013, "an en dash", "-", 0}, {0x2014, "an em dash", "-", 0},
-    {0x207b, "a superscript minus", "-", 0}, {0x207a, "a superscript plus", "+", 0}, {0x2070, "a superscript zero", "0", 0},
-    {0xb9, "a superscript one", "1", 0}, {0xb2, "a superscript two", "2", 0}, {0xb3, "a superscript three", "3", 0},
-    {0x2074, "a superscript four", "4", 0}, {0x2075, "a superscript five", "5", 0}, {0x2076, "a superscript six", "6", 0},
-    {0x2077, "a superscript seven", "7", 0}, {0x2078, "a superscript eight", "8", 0}, {0x2079, "a superscript nine", "9", 0},
-    {0x2018, "a curly quote", "'", 0}, {0x2019, "a curly quote", "'", 0}, {0x201c, "a curly double quote", "\"", 0},
-    {0x201d, "a curly double quote", "\"", 0}, {0xb0, "a degree sign", "", THALINGUZE_UNIT_DEGREE},
-    {0x2032, "a prime for minutes of arc", "", THALINGUZE_UNIT_ARCMINUTE}, {0x2033, "a double prime for seconds of arc", "", THALINGUZE_UNIT_ARCSECOND},
-    {0xc5, "the letter A with a ring", "", THALINGUZE_UNIT_ANGSTROM}, {0x212b, "an angstrom sign", "", THALINGUZE_UNIT_ANGSTROM},
-    {0x3a9, "the Greek letter omega", "", THALINGUZE_UNIT_OHM}, {0x2126, "an ohm sign", "", THALINGUZE_UNIT_OHM},
-    {0x2299, "a sign for the Sun", 0, 0}, {0x2609, "a sign for the Sun", 0, 0}, {0x2103, "a sign for degrees Celsius", 0, 0},
-    {0x221a, "a root sign", 0, 0}, {0x2030, "a per mille sign", 0, 0},
+    {0x9, "a tab", " "}, {0xa, "the end of a line", " "}, {0xd, "a carriage return", " "}, {'!', "an exclamation mark", 0},
+    {'"', "a double quote", 0}, {'#', "a number sign", 0}, {'$', "a dollar sign", ""}, {'%', "a percent sign", 0}, {'&', "an ampersand", 0},
+    {'\'', "a quote", 0}, {',', "a comma", 0}, {':', "a colon", 0}, {';', "a semicolon", 0}, {'<', "a less-than sign", 0},
+    {'=', "an equals sign", 0}, {'>', "a greater-than sign", 0}, {'?', "a question mark", 0}, {'@', "an at sign", 0},
+    {'[', "a square bracket", 0}, {'\\', "a backslash", 0}, {']', "a square bracket", 0}, {'^', "a caret", 0}, {'_', "an underscore", 0},
+    {'`', "a grave accent", 0}, {'{', "a curly bracket", "("}, {'|', "a vertical bar", 0}, {'}', "a curly bracket", ")"},
+    {'~', "a tilde", 0}, {0xa0, "a non-breaking space", " "}, {0x2009, "a thin space", " "}, {0x202f, "a narrow non-breaking space", " "},
+    {0x2002, "an en space", " "}, {0x2003, "an em space", " "}, {0x200a, "a hair space", " "}, {0x200b, "a space of no width", ""},
+    {0xfeff, "a byte order mark", ""}, {0xb5, "a micro sign", "u"}, {0x3bc, "the Greek letter mu", "u"}, {0xb7, "a raised point", "."},
+    {0x22c5, "a raised point", "."}, {0x2022, "a bullet", "."}, {0x2219, "a bullet", "."}, {0xd7, "a multiplication sign", "*"},
+    {0x2217, "a star sign", "*"}, {0x2215, "a division slash", "/"}, {0x2044, "a fraction slash", "/"}, {0xf7, "a division sign", "/"},
+    {0x2212, "a minus sign", "-"}, {0x2010, "a typeset hyphen", "-"}, {0x2011, "a non-breaking hyphen", "-"}, {0x2013, "an en dash", "-"},
+    {0x2014, "an em dash", "-"}, {0x207b, "a superscript minus", "-"}, {0x207a, "a superscript plus", "+"},
+    {0x2070, "a superscript zero", "0"}, {0xb9, "a superscript one", "1"}, {0xb2, "a superscript two", "2"},
+    {0xb3, "a superscript three", "3"}, {0x2074, "a superscript four", "4"}, {0x2075, "a superscript five", "5"},
+    {0x2076, "a superscript six", "6"}, {0x2077, "a superscript seven", "7"}, {0x2078, "a superscript eight", "8"},
+    {0x2079, "a superscript nine", "9"}, {0x2018, "a curly quote", "'"}, {0x2019, "a curly quote", "'"},
+    {0x201c, "a curly double quote", "\""}, {0x201d, "a curly double quote", "\""}, {0xb0, "a degree sign", "deg"},
+    {0x2032, "a prime for minutes of arc", "arcmin"}, {0x2033, "a double prime for seconds of arc", "arcsec"},
+    {0xc5, "the letter A with a ring", "angstrom"}, {0x212b, "an angstrom sign", "angstrom"}, {0x3a9, "the Greek letter omega", "ohm"},
+    {0x2126, "an ohm sign", "ohm"}, {0x2299, "a sign for the Sun", 0}, {0x2609, "a sign for the Sun", 0},
+    {0x2103, "a sign for degrees Celsius", 0}, {0x221a, "a root sign", 0}, {0x2030, "a per mille sign", 0},
 };
 enum { SIGNS = sizeof sign_words / sizeof sign_words[0] };
 

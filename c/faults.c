@@ -2,8 +2,7 @@
 #include <ctype.h>
 #include "command.h"
 
-void give_reason(struct text *reasons, const char *format, ...)
-{
+void give_reason(struct text *reasons, const char *format, ...) {
     char made[TEXT_ROOM];
     va_list arguments;
     va_start(arguments, format);
@@ -13,8 +12,7 @@ void give_reason(struct text *reasons, const char *format, ...)
         put(reasons, "%s\n", made);
 }
 
-bool blame_meaning(const char *label, struct text *reasons)
-{
+bool blame_meaning(const char *label, struct text *reasons) {
     size_t before = reasons->length;
     int k = 0;
     bool power_of_ten = true;
@@ -34,8 +32,7 @@ bool blame_meaning(const char *label, struct text *reasons)
     return reasons->length > before;
 }
 
-void blame_forms(uint32_t notation, const char *label, struct text *reasons)
-{
+void blame_forms(uint32_t notation, const char *label, struct text *reasons) {
     const struct notation_word *w = &notation_words[notation];
     int open = 0;
     for (const char *at = label; *at; at++) {

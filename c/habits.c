@@ -6,43 +6,34 @@
 
 #define DIGITS "0123456789"
 
-static bool is_one_of(char c, const char *signs)
-{
+static bool is_one_of(char c, const char *signs) {
     return c != 0 && strchr(signs, c) != NULL;
 }
 
-static bool is_unit_byte(char c)
-{
+static bool is_unit_byte(char c) {
     return isalpha((unsigned char)c) || c == '%' || c == '\'';
 }
 
-static bool starts_integer(const char *s)
-{
+static bool starts_integer(const char *s) {
     return is_one_of(s[is_one_of(s[0], "+-")], DIGITS);
 }
 
-/* WRITING */
-
 /* adds what stands beside the metre in an OGIP label, before or after it, as the notation writes it */
-static bool put_beside_metre(uint32_t notation, const char *in_ogip, bool after, struct text *to)
-{
+static bool put_beside_metre(uint32_t notation, const char *in_ogip, bool after, struct text *to) {
     struct text t = {0};
-    if (ask_rewriting(THALINGUZE_OGIP, in_ogip, notation, &t) != THALINGUZE_ACCEPTED)
-        return false;
-    put(to, "%.*s", (int)t.length - 1, t.s + after);
-    return true;
+    bool written = ask_rewriting(THALINGUZE_OGIP, in_ogip, notation, &t) == THALINGUZE_ACCEPTED;
+    put(to, "%.*s", written ? (int)t.length - 1 : 0, t.s + after);
+    return written;
 }
 
-char joint_in(uint32_t notation)
-{
+char joint_in(uint32_t notation) {
     struct text t = {0};
     ask_rewriting(THALINGUZE_OGIP, "m m", notation, &t);
     return t.s[1];
 }
 
 /* metres are written in place of the units, and then the spellings in place of the metres */
-bool put_terms(uint32_t notation, const char *label, const uint8_t *record, struct text *result)
-{
+bool put_terms(uint32_t notation, const char *label, const uint8_t *record, struct text *result) {
     struct text metres = {0}, shape = {0};
     put(&metres, thalinguze_k(record) ? "10**%d" : "", thalinguze_k(record));
     for (unsigned i = 0; i < thalinguze_count(record); i++) {
@@ -57,11 +48,8 @@ bool put_terms(uint32_t notation, const char *label, const uint8_t *record, stru
     return true;
 }
 
-/* NUMBERS */
-
 /* an exponent in any form: how many bytes it has, 0 if there is none, and the number without its signs and brackets */
-static size_t power_length(const char *s, struct text *exponent)
-{
+static size_t power_length(const char *s, struct text *exponent) {
     size_t at = strncmp(s, "**", 2) == 0 ? 2 : s[0] == '^';
     bool bracket = s[at] == '(';
     at += bracket;
@@ -79,15 +67,14 @@ static size_t power_length(const char *s, struct text *exponent)
     return at + length + bracket;
 }
 
-size_t exponent_length(const char *label, size_t at, struct text *exponent)
-{
+size_t exponent_length(const char *label, size_t at, struct text *exponent) {
     size_t length = at > 0 && is_unit_byte(label[at - 1]) ? power_length(label + at, exponent) : 0;
     const char *after = label + at + length;
-    return isalnum((unsigned char)*after) || is_one_of(*after, "(^+-'%") || strncmp(after, "**", 2) == 0 ? 0 : length; /* else it is no exponent */
+    bool goes_on = isalnum((unsigned char)*after) || is_one_of(*after, "(^+-'%") || strncmp(after, "**", 2) == 0;
+    return goes_on ? 0 : length;
 }
 
-size_t leading_number(const char *s, int *k, bool *power_of_ten)
-{
+size_t leading_number(const char *s, int *k, bool *power_of_ten) {
     struct text exponent = {0};
     size_t whole = strspn(s, DIGITS), end = whole, one = strspn(s, "0."), power = 0;
     if (whole == 0)
@@ -112,23 +99,19 @@ size_t leading_number(const char *s, int *k, bool *power_of_ten)
     return end;
 }
 
-/* THE REPLACEMENTS */
-
 /* spaces and quotes round the whole label */
-static void replace_ends(uint32_t notation, const char *s, struct text *to)
-{
+static void replace_ends(uint32_t notation, const char *s, struct text *to) {
     size_t first = strspn(s, " "), end = strlen(s);
     while (end > first && s[end - 1] == ' ')
         end--;
-    bool quoted = end > first + 2 && is_one_of(s[first], "'\"`") && s[end - 1] == s[first] && !memchr(s + first + 1, s[first], end - first - 2);
+    bool quoted = end > first + 2 && is_one_of(s[first], "'\"`") && strchr(s + first + 1, s[first]) == s + end - 1;
     quoted &= !accepts(THALINGUZE_VOUNITS, s); /* where quotes are round a unit of the author's own */
     put(to, "%.*s", (int)(end - first - 2 * quoted), s + first + quoted);
     (void)notation;
 }
 
 /* spaces that join nothing, and several that join */
-static void replace_spaces(uint32_t notation, const char *s, struct text *to)
-{
+static void replace_spaces(uint32_t notation, const char *s, struct text *to) {
     for (size_t i = 0, end; s[i]; i = end) {
         end = i + strspn(s + i, " ");
         char before = i ? s[i - 1] : 0;
@@ -141,8 +124,7 @@ static void replace_spaces(uint32_t notation, const char *s, struct text *to)
 }
 
 /* a power of ten at the start */
-static void replace_factors(uint32_t notation, const char *s, struct text *to)
-{
+static void replace_factors(uint32_t notation, const char *s, struct text *to) {
     struct text as_it_is = {0}, in_ogip = {0};
     int k = 0;
     bool power_of_ten = false;
@@ -154,8 +136,7 @@ static void replace_factors(uint32_t notation, const char *s, struct text *to)
 }
 
 /* signs that join units */
-static void replace_joints(uint32_t notation, const char *s, struct text *to)
-{
+static void replace_joints(uint32_t notation, const char *s, struct text *to) {
     for (size_t i = 0; s[i]; i++) {
         const char joined[] = {'m', s[i], 'm', 0};
         bool joins = i > 0 && is_one_of(s[i], " *.") && !is_one_of(s[i - 1], "/*.( ") && (is_unit_byte(s[i + 1]) || s[i + 1] == '(');
@@ -164,8 +145,7 @@ static void replace_joints(uint32_t notation, const char *s, struct text *to)
 }
 
 /* exponents */
-static void replace_powers(uint32_t notation, const char *s, struct text *to)
-{
+static void replace_powers(uint32_t notation, const char *s, struct text *to) {
     for (size_t i = 0, length; s[i]; i += length) {
         struct text exponent = {0}, as_it_is = {0}, in_ogip = {0};
         length = exponent_length(s, i, &exponent);
@@ -178,9 +158,9 @@ static void replace_powers(uint32_t notation, const char *s, struct text *to)
     }
 }
 
-bool replace_habits(uint32_t notation, const char *label, struct text *result, bool used[HABITS])
-{
-    static void (*const replace[HABITS])(uint32_t, const char *, struct text *) = {replace_ends, replace_factors, replace_joints, replace_powers, replace_spaces};
+bool replace_habits(uint32_t notation, const char *label, struct text *result, bool used[HABITS]) {
+    static void (*const replace[HABITS])(uint32_t, const char *, struct text *) = {replace_ends, replace_factors, replace_joints,
+                                                                                   replace_powers, replace_spaces};
     memset(used, 0, HABITS * sizeof used[0]);
     put(result, "%s", label);
     for (unsigned h = 0; h < 2 * HABITS && !accepts(notation, result->s); h++) { /* twice: without its spaces a sign may be another habit */
@@ -192,8 +172,7 @@ bool replace_habits(uint32_t notation, const char *label, struct text *result, b
     return accepts(notation, result->s);
 }
 
-void put_below(const char *label, char joint, struct text *result)
-{
+void put_below(const char *label, char joint, struct text *result) {
     bool open[THALINGUZE_MAX_LABEL_SIZE + 2] = {false};
     unsigned depth = 0;
     for (size_t i = 0, length; label[i] && depth <= THALINGUZE_MAX_LABEL_SIZE; i += length) {

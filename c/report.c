@@ -2,34 +2,30 @@
 #include "command.h"
 
 /* adds the spellings of the terms on which a verdict is no: those on which it is no alone; how many they are */
-static unsigned list_blamed(struct text *list, uint32_t notation, const char *label, const uint8_t *record, unsigned verdict)
-{
+static unsigned list_blamed(struct text *list, uint32_t notation, const char *label, const uint8_t *record, unsigned verdict) {
     unsigned count = 0;
     for (unsigned i = 0; i < thalinguze_count(record); i++) {
-        uint8_t alone[THALINGUZE_RECORD_SIZE];
-        ask(notation, spelling_of(label, record, i).s, alone);
-        if (!thalinguze_field(alone, verdict))
-            put(list, "%s%s", count++ ? ", " : "", spelling_of(label, record, i).s);
+        struct text spelling = spelling_of(label, record, i);
+        if (!thalinguze_field(ask(notation, spelling.s).record, verdict))
+            put(list, "%s%s", count++ ? ", " : "", spelling.s);
     }
     return count;
 }
 
-static void print_first_sentence(uint32_t notation, const char *label, const uint8_t *record)
-{
+static void print_first_sentence(uint32_t notation, const char *label, const uint8_t *record) {
     struct text said = {0}, blamed = {0};
     say_reading(&said, label, record);
     unsigned unknown = list_blamed(&blamed, notation, label, record, THALINGUZE_FIELD_KNOWN);
     if (unknown)
         printf("Accepted, but %u unit%s unknown: %s.\nIt reads: %s.\n", unknown, unknown == 1 ? " is" : "s are", blamed.s, said.s);
     else if (list_blamed(&blamed, notation, label, record, THALINGUZE_FIELD_LAWFUL))
-        printf("Accepted, but a unit has a prefix that it does not take in %s: %s.\nIt reads: %s.\n", notation_words[notation].name, blamed.s, said.s);
+        printf("Accepted, but with a prefix on a unit that takes none in %s: %s.\nIt reads: %s.\n", notation_words[notation].name, blamed.s, said.s);
     else
         printf("Accepted: %s.\n", said.s);
 }
 
 /* the terms above and below the fraction line, where there is something below it or everything is asked for */
-static void print_sides(const char *label, const uint8_t *record, bool in_full)
-{
+static void print_sides(const char *label, const uint8_t *record, bool in_full) {
     struct text sides[2] = {{0}, {0}};
     for (unsigned i = 0; i < thalinguze_count(record); i++) {
         int64_t exponent = thalinguze_term_exponent(record, i);
@@ -37,44 +33,36 @@ static void print_sides(const char *label, const uint8_t *record, bool in_full)
         put(side, "%s", side->length ? ", " : "");
         say_term(side, label, record, i, exponent < 0 ? -exponent : exponent);
     }
-    if (sides[1].length || in_full)
-        printf("Above the line: %s.\nBelow the line: %s.\n", sides[0].length ? sides[0].s : "nothing", sides[1].length ? sides[1].s : "nothing");
+    for (int s = 0; s < 2 && (sides[1].length || in_full); s++)
+        printf("%s the line: %s.\n", s ? "Below" : "Above", sides[s].length ? sides[s].s : "nothing");
 }
 
-/* what goes without saying, if it is asked for, and the size, unless it only repeats the bases and the label */
-static void print_size(const uint8_t *record, bool in_full)
-{
+/* the size, unless it is 1, and what goes without saying, if it is asked for */
+static void print_size(const uint8_t *record, bool in_full) {
     static const char *const answers[] = {"no", "yes"};
     struct text size = {0}, dimensions = {0};
-    bool repeats = thalinguze_k(record) == 0;
-    for (unsigned i = 0; i < thalinguze_count(record); i++) {
-        bool base = false;
-        for (unsigned b = 0; b < THALINGUZE_BASES; b++)
-            base |= unit_of(base_symbols[b]) == thalinguze_term_unit(record, i);
-        repeats &= base && thalinguze_term_prefix(record, i) == THALINGUZE_PREFIX_NONE;
-    }
+    bool one = true;
+    int k = thalinguze_k(record);
+    for (unsigned p = 0; p < THALINGUZE_PRIMES; p++)
+        one &= thalinguze_scale(record, p) == 0;
     say_size(&size, record);
     say_dimensions(&dimensions, record);
     if (in_full)
-        printf("Power of ten: %s%d.\nKnown: %s.\nLawful: %s.\nRecommended: %s.\nDimensions: %s%s.\n", thalinguze_k(record) < 0 ? "minus " : "",
-               thalinguze_k(record) < 0 ? -thalinguze_k(record) : thalinguze_k(record), answers[thalinguze_known(record)],
-               answers[thalinguze_lawful(record)], answers[thalinguze_recommended(record)], dimensions.s,
+        printf("Power of ten: %s%d.\nKnown: %s.\nLawful: %s.\nRecommended: %s.\nDimensions: %s%s.\n", k < 0 ? "minus " : "", k < 0 ? -k : k,
+               answers[thalinguze_known(record)], answers[thalinguze_lawful(record)], answers[thalinguze_recommended(record)], dimensions.s,
                thalinguze_known(record) ? "" : ", with unknown units left out");
-    if (in_full || (thalinguze_known(record) && !repeats))
+    if (in_full || (thalinguze_known(record) && !one))
         printf("Size: %s.\n", size.s);
 }
 
-static void print_suggestions(FILE *out, const struct advice *a)
-{
+static void print_suggestions(FILE *out, const struct advice *a) {
     static const char *const claims[] = {[SAME] = "Write: ", [ASKED] = "Did you mean: ",
         [NEXT] = "If only the unit or group straight after a slash is below the line, write: ",
         [REST] = "If all that follows the slash is below the line, write: "};
     for (unsigned i = 0; i < a->count; i++) {
         const struct suggestion *s = &a->list[i];
-        uint8_t record[THALINGUZE_RECORD_SIZE];
         struct text said = {0};
-        ask(s->source, a->plain.s, record);
-        say_reading(&said, a->plain.s, record);
+        say_reading(&said, a->plain.s, ask(s->source, a->plain.s).record);
         if (s->claim == ANOTHER)
             fprintf(out, "As %s this is %s; in %s: %s\n", notation_words[s->source].name, said.s, notation_words[a->notation].name, s->label);
         else
@@ -82,8 +70,7 @@ static void print_suggestions(FILE *out, const struct advice *a)
     }
 }
 
-void report_reading(uint32_t notation, const char *label, const uint8_t *record, bool in_full)
-{
+void report_reading(uint32_t notation, const char *label, const uint8_t *record, bool in_full) {
     struct advice a;
     struct text blamed = {0};
     print_first_sentence(notation, label, record);
@@ -91,12 +78,11 @@ void report_reading(uint32_t notation, const char *label, const uint8_t *record,
     if (thalinguze_known(record) && list_blamed(&blamed, notation, label, record, THALINGUZE_FIELD_RECOMMENDED))
         printf("Not recommended: %s.\n", blamed.s);
     print_size(record, in_full);
-    advise_on_spelling(&a, notation, label);
+    advise(&a, notation, label, THALINGUZE_ACCEPTED);
     print_suggestions(stdout, &a);
 }
 
-void report_refusal(FILE *out, uint32_t notation, const char *label, uint32_t number)
-{
+void report_refusal(FILE *out, uint32_t notation, const char *label, uint32_t number) {
     static const char *const conditions[] = { /* those that end in a space go on with the notation's name */
         [THALINGUZE_TOO_LONG] = "the label has more than 255 bytes",
         [THALINGUZE_BYTE_OUT_OF_RANGE] = "the label has signs that are not plain ASCII",

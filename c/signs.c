@@ -3,8 +3,7 @@
 #include "command.h"
 
 /* the Unicode number of the first character, in UTF-8 or else in Latin-1, and how many bytes it has */
-static unsigned decode(const char *s, size_t *length)
-{
+static unsigned decode(const char *s, size_t *length) {
     const unsigned char *u = (const unsigned char *)s;
     unsigned more = u[0] >= 0xf0 ? 3 : u[0] >= 0xe0 ? 2 : u[0] >= 0xc2 ? 1 : 0, code = more ? u[0] & (0x3fu >> more) : u[0];
     for (*length = 1; *length <= more; ++*length) {
@@ -17,8 +16,7 @@ static unsigned decode(const char *s, size_t *length)
     return code;
 }
 
-const struct sign_word *find_sign(unsigned code)
-{
+const struct sign_word *find_sign(unsigned code) {
     for (unsigned i = 0; i < SIGNS; i++)
         if (sign_words[i].code == code)
             return &sign_words[i];
@@ -26,8 +24,7 @@ const struct sign_word *find_sign(unsigned code)
 }
 
 /* adds a sign's name to a list of them, once */
-static void add_name(struct text *names, const struct sign_word *sign, unsigned code)
-{
+static void add_name(struct text *names, const struct sign_word *sign, unsigned code) {
     struct text name = {0};
     if (sign)
         put(&name, "%s", sign->name);
@@ -37,8 +34,7 @@ static void add_name(struct text *names, const struct sign_word *sign, unsigned 
         put(names, "%s%s", names->length ? ", " : "", name.s);
 }
 
-bool replace_signs(uint32_t notation, const char *label, struct text *plain, struct text *reasons)
-{
+bool replace_signs(uint32_t notation, const char *label, struct text *plain, struct text *reasons) {
     struct text names = {0};
     bool replaced = true, celsius = false;
     for (size_t at = 0, length; label[at]; at += length) {

@@ -4,8 +4,7 @@
 #include "command.h"
 
 /* whether a spelling is a common prefix and a name, but for capitals and a plural s; a name of one letter and milli keep their case */
-static bool is_form(const char *spelling, const char *prefix, const char *name, bool mega)
-{
+static bool is_form(const char *spelling, const char *prefix, const char *name, bool mega) {
     size_t before = strlen(prefix), letters = strlen(name), length = strlen(spelling);
     bool plural = letters > 1 && length == before + letters + 1 && tolower((unsigned char)spelling[length - 1]) == 's';
     bool same_case = strncmp(spelling, prefix, before) == 0, any_case = prefix[0] != 'm' && (mega || prefix[0] != 'M');
@@ -16,24 +15,24 @@ static bool is_form(const char *spelling, const char *prefix, const char *name, 
 }
 
 /* adds the notation's name for a spelling, with its prefix */
-static bool put_meant(uint32_t notation, const char *spelling, bool mega, struct text *to)
-{
-    uint8_t record[THALINGUZE_RECORD_SIZE];
+static bool put_meant(uint32_t notation, const char *spelling, bool mega, struct text *to) {
     struct text usual = {0};
     for (int p = 0; p <= PREFIXES; p++)
-        for (unsigned i = 0; i < SPELLINGS && usual.length == 0; i++)
-            if (is_form(spelling, prefix_words[p].symbol, spelling_words[i][0], false) || is_form(spelling, prefix_words[p].word, spelling_words[i][0], false))
-                put(&usual, "%s%s", prefix_words[p].symbol, spelling_words[i][1]);
+        for (unsigned i = 0; i < SPELLINGS && usual.length == 0; i++) {
+            const char *name = spelling_words[i][0], *prefix = prefix_words[p].symbol;
+            if (is_form(spelling, prefix, name, false) || is_form(spelling, prefix_words[p].word, name, false))
+                put(&usual, "%s%s", prefix, spelling_words[i][1]);
+        }
     spelling = usual.length ? usual.s : spelling;
     for (int p = 0; p <= PREFIXES; p++)
         for (int u = 1; u <= THALINGUZE_UNITS; u++) {
-            const char *prefix = prefix_words[p].symbol, *other = unit_words[u].other;
+            const char *prefix = prefix_words[p].symbol, *other = unit_words[u][OTHER];
             struct text t = {0};
-            bool meant = is_form(spelling, prefix, unit_words[u].symbol, mega) || (other && is_form(spelling, prefix, other, mega))
-                      || is_form(spelling, prefix_words[p].word, unit_words[u].word, mega);
+            bool meant = is_form(spelling, prefix, unit_words[u][SYMBOL], mega) || (other && is_form(spelling, prefix, other, mega))
+                      || is_form(spelling, prefix_words[p].word, unit_words[u][WORD], mega);
             const char *name = meant ? name_in(notation, u) : NULL;
             put(&t, "%s%s", prefix, name ? name : "");
-            if (name && is_sound(notation, t.s, record)) {
+            if (name && is_sound(notation, t.s)) {
                 put(to, "%s", t.s);
                 return true;
             }
@@ -41,26 +40,24 @@ static bool put_meant(uint32_t notation, const char *spelling, bool mega, struct
     return false;
 }
 
-bool respell(uint32_t notation, const char *given, bool mega, struct text *result)
-{
-    uint8_t record[THALINGUZE_RECORD_SIZE], alone[THALINGUZE_RECORD_SIZE];
+bool respell(uint32_t notation, const char *given, bool mega, struct text *result) {
     bool capitals = strpbrk(given, "abcdefghijklmnopqrstuvwxyz") == NULL && strlen(given) > 1, found = true;
     struct text label = {0};
     for (size_t i = 0; given[i]; i++) {
         bool prefix = mega && given[i] == 'M' && isalpha((unsigned char)given[i + 1]) && (i == 0 || !isalpha((unsigned char)given[i - 1]));
         put(&label, "%c", capitals && !prefix ? tolower((unsigned char)given[i]) : given[i]);
     }
-    ask(notation, label.s, record);
+    struct reading r = ask(notation, label.s);
     size_t at = 0;
-    for (unsigned i = 0; i < thalinguze_count(record); i++) {
-        struct text spelling = spelling_of(label.s, record, i);
-        put(result, "%.*s", (int)(thalinguze_term_start(record, i) - at), label.s + at);
-        at = thalinguze_term_start(record, i) + spelling.length;
-        if (is_sound(notation, spelling.s, alone))
+    for (unsigned i = 0; i < thalinguze_count(r.record); i++) {
+        struct text spelling = spelling_of(label.s, r.record, i);
+        put(result, "%.*s", (int)(thalinguze_term_start(r.record, i) - at), label.s + at);
+        at = thalinguze_term_start(r.record, i) + spelling.length;
+        if (is_sound(notation, spelling.s))
             put(result, "%s", spelling.s);
         else
             found &= put_meant(notation, spelling.s, mega, result);
     }
     put(result, "%s", label.s + at);
-    return found && is_sound(notation, result->s, record);
+    return found && is_sound(notation, result->s);
 }

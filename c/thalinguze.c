@@ -9,9 +9,7 @@ static const char help[] =
     "       thalinguze list NOTATION                 the units that a notation knows\n"
     "       thalinguze read --vectors                readings, for programs\n"
     "       thalinguze convert --vectors             conversions, for programs\n"
-    "       thalinguze --version\n"
-    "       thalinguze --help\n"
-    "\n"
+    "       thalinguze --version, thalinguze --help\n"
     "A notation is fits, ogip, cds or vou (vounits is the same), in small or capital\n"
     "letters. read also takes all, for every notation. A label is one argument: put\n"
     "quotes round it. With --long, read and convert leave nothing out.\n"
@@ -19,17 +17,14 @@ static const char help[] =
     "  thalinguze read all 'erg/(s cm2)'\n"
     "  thalinguze rewrite cds '10+3pix/h' ogip\n"
     "  thalinguze convert cds km/h fits m/s\n"
-    "\n"
     "A term is above the line if its exponent is positive, below if it is negative.\n"
     "A unit is known if the notation has it. A prefix is lawful on a unit that takes\n"
     "prefixes. Angstrom, erg, gauss and barn are known, but not recommended. What is\n"
     "suggested for a refused label is accepted, and its units are known.\n"
-    "\n"
     "read answers on standard output, also where it refuses. rewrite prints the new\n"
     "label alone, and convert the factor; their refusals are on standard error.\n"
     "Exit status: 0 accepted (read all: in one notation at least), 1 refused, 2 a\n"
     "wrong call, a malformed line, or a failure to read or write.\n"
-    "\n"
     "--vectors reads lines from standard input: a notation number (1 FITS, 2 OGIP,\n"
     "3 CDS, 4 VOUnits), a space and the label's bytes in hexadecimal, or - for the\n"
     "empty label; for convert, a space and the same again. It prints each line with\n"
@@ -37,15 +32,13 @@ static const char help[] =
     "standard error.\n"
     "  printf '3 6b672f6d2e73\\n' | thalinguze read --vectors\n";
 
-static int wrong_call(const char *what)
-{
+static int wrong_call(const char *what) {
     fprintf(stderr, "thalinguze: %s\nFor help: thalinguze --help\n", what);
     return WRONG_CALL;
 }
 
 /* the number of a notation's name; 0 for any other text */
-static uint32_t notation_of(const char *name)
-{
+static uint32_t notation_of(const char *name) {
     for (uint32_t n = 1; n <= NOTATIONS; n++)
         if (strcasecmp(name, notation_words[n].argument) == 0 || strcasecmp(name, notation_words[n].name) == 0)
             return n;
@@ -53,29 +46,24 @@ static uint32_t notation_of(const char *name)
 }
 
 /* reads a label in the notations from the first to the last */
-static int read_label(uint32_t first, uint32_t last, const char *label, bool in_full)
-{
+static int read_label(uint32_t first, uint32_t last, const char *label, bool in_full) {
     int status = REFUSED;
     for (uint32_t n = first; n <= last; n++) {
-        uint8_t record[THALINGUZE_RECORD_SIZE];
-        uint32_t number = ask(n, label, record);
+        struct reading r = ask(n, label);
         if (first < last)
             printf("%sIn %s: ", n > first ? "\n" : "", notation_words[n].name);
-        if (number == THALINGUZE_ACCEPTED)
-            report_reading(n, label, record, in_full);
+        if (r.number == THALINGUZE_ACCEPTED)
+            report_reading(n, label, r.record, in_full);
         else
-            report_refusal(stdout, n, label, number);
-        status = number == THALINGUZE_ACCEPTED ? 0 : status;
+            report_refusal(stdout, n, label, r.number);
+        status = r.number == THALINGUZE_ACCEPTED ? 0 : status;
     }
     return status;
 }
 
 /* a command with its words, without --long */
-static int run_command(int count, char **words, bool in_full)
-{
+static int run_command(int count, char **words, bool in_full) {
     static const char *const names[] = {"read", "rewrite", "convert", "list"};
-    static const char *const calls[] = {"a notation and a label", "a notation, a label and a notation", "a notation and a label, twice",
-                                        "a notation"};
     static const int counts[] = {3, 4, 5, 2};
     int c = 0;
     while (c < 4 && strcmp(words[0], names[c]) != 0)
@@ -86,7 +74,7 @@ static int run_command(int count, char **words, bool in_full)
         return print_vectors(c == 2);
     if (count != counts[c]) {
         struct text call = {0};
-        put(&call, "%s needs %s; put quotes round a label with spaces or brackets", names[c], calls[c]);
+        put(&call, "%s is called in another way; put quotes round a label with spaces or brackets", names[c]);
         return wrong_call(call.s);
     }
     if (c == 0 && strcasecmp(words[1], "all") == 0)
@@ -98,8 +86,7 @@ static int run_command(int count, char **words, bool in_full)
          : c == 2 ? convert_labels(from, words[2], to, words[4], in_full) : list_units(from);
 }
 
-int main(int argc, char **argv)
-{
+int main(int argc, char **argv) {
     char *words[6] = {0};
     bool in_full = false, wants_help = false;
     int count = 0, status = 0;

@@ -12,8 +12,7 @@ struct given {
 };
 
 /* takes a number, a space and pairs of hexadecimal digits, or a hyphen for none; where that ends, or NULL if it is malformed */
-static char *take(char *line, struct given *g)
-{
+static char *take(char *line, struct given *g) {
     char *number = line + (*line == '-'), *hex = number + strspn(number, "0123456789") + 1;
     if (hex == number + 1 || hex[-1] != ' ')
         return NULL;
@@ -25,35 +24,31 @@ static char *take(char *line, struct given *g)
     return *hex == '-' ? hex + 1 : digits && digits % 2 == 0 ? hex + digits : NULL;
 }
 
-static void decode(struct given *g)
-{
+static void decode(struct given *g) {
     for (size_t i = 0; i < g->size; i++) {
         const char pair[] = {(char)g->label[2 * i], (char)g->label[2 * i + 1], 0};
         g->label[i] = (uint8_t)strtoul(pair, NULL, 16);
     }
 }
 
-static void put_term(struct text *t, const struct given *g, const uint8_t *record, unsigned i)
-{
+static void put_term(struct text *t, const struct given *g, const uint8_t *record, unsigned i) {
     int prefix = thalinguze_term_prefix(record, i), unit = thalinguze_term_unit(record, i);
     size_t start = thalinguze_term_start(record, i), length = thalinguze_term_length(record, i);
     size_t first = thalinguze_term_letters_start(record, i), count = thalinguze_term_letters_length(record, i);
     put(t, "%s%zu+%zu:", i ? " " : "", start, length);
     put(t, prefix ? "ten^%d:" : "-:", prefix_words[prefix].power);
     if (unit != THALINGUZE_UNIT_UNKNOWN)
-        put(t, "%s:", unit_words[unit].symbol);
+        put(t, "%s:", unit_words[unit][SYMBOL]);
     else /* a quoted spelling goes on after the letters */
         put(t, "?%.*s%s:", (int)count, (const char *)g->label + first, first + count < start + length ? "'" : "");
     put_sixtieths(t, thalinguze_term_exponent(record, i));
 }
 
-static int by_symbol(const void *a, const void *b)
-{
+static int by_symbol(const void *a, const void *b) {
     return strcmp(base_symbols[*(const unsigned *)a], base_symbols[*(const unsigned *)b]);
 }
 
-static void put_reading(struct text *t, const struct given *g)
-{
+static void put_reading(struct text *t, const struct given *g) {
     uint8_t record[THALINGUZE_RECORD_SIZE] = {0};
     unsigned order[THALINGUZE_BASES], count = 0;
     uint32_t number = thalinguze_read(g->notation, g->label, g->size, record, sizeof record);
@@ -77,8 +72,7 @@ static void put_reading(struct text *t, const struct given *g)
     }
 }
 
-static void put_conversion(struct text *t, const struct given *g, const struct given *h)
-{
+static void put_conversion(struct text *t, const struct given *g, const struct given *h) {
     uint8_t record[THALINGUZE_CONVERSION_SIZE];
     uint32_t number = thalinguze_convert(g->notation, g->label, g->size, h->notation, h->label, h->size, record, sizeof record);
     int64_t n = number ? 0 : thalinguze_numerator(record), d = number ? 1 : thalinguze_denominator(record);
@@ -86,8 +80,7 @@ static void put_conversion(struct text *t, const struct given *g, const struct g
 }
 
 /* prints a line with the answer; false if it is malformed */
-static bool print_line(char *line, const char *end, bool converting)
-{
+static bool print_line(char *line, const char *end, bool converting) {
     struct given first, second = {0};
     struct text answer = {0};
     char *rest = take(line, &first);
@@ -106,8 +99,7 @@ static bool print_line(char *line, const char *end, bool converting)
     return true;
 }
 
-int print_vectors(bool converting)
-{
+int print_vectors(bool converting) {
     char *line = NULL;
     size_t room = 0;
     int status = 0;

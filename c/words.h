@@ -16,19 +16,20 @@ struct notation_word {
 };
 
 static const struct notation_word notation_words[NOTATIONS + 1] = {
-    [THALINGUZE_FITS] = {"fits", "FITS", "()/*.+-^ ", "one space, a star or a point joins units", "one space may join units, and there are no other spaces",
-                         "an exponent that is not whole is a fraction in brackets", "a power of ten is 10, two stars and its exponent",
-                         "one slash is allowed, outside groups and not after a power of ten, and one unit or group after it",
-                         {"kg m2/s3", "10**3 erg/(s cm2)", "Hz(1/2)"}},
-    [THALINGUZE_OGIP] = {"ogip", "OGIP", "()/*.+- ", "a space or a star joins units", "there are no spaces inside brackets or before an exponent",
-                         "an exponent comes after two stars, a fraction in brackets", "a power of ten is 10, two stars and its exponent",
-                         0, {"kg m**2/s**3", "10**3 erg/(s cm**2)", "Hz**(1/2)"}},
-    [THALINGUZE_CDS] = {"cds", "CDS", "()/*.+-%", "a point joins units", "there are no spaces", "an exponent is a whole number straight after its unit",
-                        "a power of ten is 10 and its exponent with a plus or minus sign, without spaces",
-                        0, {"kg.m2/s3", "10+3J/(s.cm2)", "km/s/Mpc"}},
-    [THALINGUZE_VOUNITS] = {"vou", "VOUnits", "()/*.+-'", "a point joins units", "there are no spaces", "an exponent comes after two stars",
-                            "a power of ten is 10, two stars and its exponent, without spaces", "one slash is allowed, after a unit, and one unit or group after it",
-                            {"kg.m**2/s**3", "10**3erg/(s.cm**2)", "Hz**(1/2)"}},
+    [THALINGUZE_FITS] = {"fits", "FITS", "()/*.+-^ ", "one space, a star or a point joins units",
+        "one space may join units, and there are no other spaces", "an exponent that is not whole is a fraction in brackets",
+        "a power of ten is 10, two stars and its exponent",
+        "one slash is allowed, outside groups and not after a power of ten, and one unit or group after it",
+        {"kg m2/s3", "10**3 erg/(s cm2)", "Hz(1/2)"}},
+    [THALINGUZE_OGIP] = {"ogip", "OGIP", "()/*.+- ", "a space or a star joins units",
+        "there are no spaces inside brackets or before an exponent", "an exponent comes after two stars, a fraction in brackets",
+        "a power of ten is 10, two stars and its exponent", 0, {"kg m**2/s**3", "10**3 erg/(s cm**2)", "Hz**(1/2)"}},
+    [THALINGUZE_CDS] = {"cds", "CDS", "()/*.+-%", "a point joins units", "there are no spaces",
+        "an exponent is a whole number straight after its unit", "a power of ten is 10 and its exponent with a plus or minus sign, without spaces",
+        0, {"kg.m2/s3", "10+3J/(s.cm2)", "km/s/Mpc"}},
+    [THALINGUZE_VOUNITS] = {"vou", "VOUnits", "()/*.+-'", "a point joins units", "there are no spaces",
+        "an exponent comes after two stars, a fraction in brackets", "a power of ten is 10, two stars and its exponent, without spaces",
+        "one slash is allowed, after a unit, and one unit or group after it", {"kg.m**2/s**3", "10**3erg/(s.cm**2)", "Hz**(1/2)"}},
 };
 
 struct prefix_word {
@@ -45,24 +46,19 @@ static const struct prefix_word prefix_words[PREFIXES + 1] = {
     {"p", "pico", -12}, {"f", "femto", -15}, {"a", "atto", -18}, {"z", "zepto", -21}, {"y", "yocto", -24},
 };
 
-struct unit_word {
-    const char *symbol, *word; /* as labels write it, as a person says it */
-    const char *other;         /* its other name in labels, or NULL */
-};
-
-static const struct unit_word unit_words[THALINGUZE_UNITS + 1] = {
-    {"?", "unknown", 0}, {"m", "metre", 0}, {"g", "gram", 0}, {"s", "second", 0}, {"A", "ampere", 0}, {"K", "kelvin", 0},
-    {"mol", "mole", 0}, {"cd", "candela", 0}, {"rad", "radian", 0}, {"sr", "steradian", 0}, {"Hz", "hertz", 0}, {"N", "newton", 0},
-    {"Pa", "pascal", 0}, {"J", "joule", 0}, {"W", "watt", 0}, {"C", "coulomb", 0}, {"V", "volt", 0}, {"S", "siemens", 0}, {"F", "farad", 0},
-    {"Wb", "weber", 0}, {"T", "tesla", 0}, {"H", "henry", 0}, {"lm", "lumen", 0}, {"lx", "lux", 0}, {"min", "minute", 0}, {"h", "hour", 0},
-    {"d", "day", 0}, {"yr", "year", "a"}, {"deg", "degree", 0}, {"arcmin", "arcminute", 0}, {"arcsec", "arcsecond", 0},
-    {"AU", "astronomical unit", 0}, {"pc", "parsec", 0}, {"eV", "electronvolt", 0}, {"Jy", "jansky", 0}, {"barn", "barn", 0},
-    {"mag", "magnitude", 0}, {"byte", "byte", 0}, {"mas", "milliarcsecond", 0}, {"pixel", "pixel", "pix"}, {"count", "count", "ct"},
-    {"Ry", "rydberg", 0}, {"solMass", "solar mass", 0}, {"solLum", "solar luminosity", 0}, {"solRad", "solar radius", 0}, {"D", "debye", 0},
-    {"Sun", "Sun", 0}, {"bit", "bit", 0}, {"ohm", "ohm", "Ohm"}, {"erg", "erg", 0}, {"G", "gauss", 0}, {"lyr", "light year", 0},
-    {"photon", "photon", "ph"}, {"chan", "channel", 0}, {"bin", "bin", 0}, {"voxel", "voxel", 0}, {"u", "atomic mass unit", 0},
-    {"R", "rayleigh", 0}, {"adu", "analogue-to-digital unit", 0}, {"beam", "beam", 0}, {"angstrom", "angstrom", "Angstrom"},
-    {"%", "percent", 0},
+/* A unit as labels write it, as a person says it, and its other name in labels, if it has one. */
+enum { SYMBOL, WORD, OTHER, WORDS };
+static const char *const unit_words[THALINGUZE_UNITS + 1][WORDS] = {
+    {"?", "unknown"}, {"m", "metre"}, {"g", "gram"}, {"s", "second"}, {"A", "ampere"}, {"K", "kelvin"}, {"mol", "mole"}, {"cd", "candela"},
+    {"rad", "radian"}, {"sr", "steradian"}, {"Hz", "hertz"}, {"N", "newton"}, {"Pa", "pascal"}, {"J", "joule"}, {"W", "watt"},
+    {"C", "coulomb"}, {"V", "volt"}, {"S", "siemens"}, {"F", "farad"}, {"Wb", "weber"}, {"T", "tesla"}, {"H", "henry"}, {"lm", "lumen"},
+    {"lx", "lux"}, {"min", "minute"}, {"h", "hour"}, {"d", "day"}, {"yr", "year", "a"}, {"deg", "degree"}, {"arcmin", "arcminute"},
+    {"arcsec", "arcsecond"}, {"AU", "astronomical unit"}, {"pc", "parsec"}, {"eV", "electronvolt"}, {"Jy", "jansky"}, {"barn", "barn"},
+    {"mag", "magnitude"}, {"byte", "byte"}, {"mas", "milliarcsecond"}, {"pixel", "pixel", "pix"}, {"count", "count", "ct"},
+    {"Ry", "rydberg"}, {"solMass", "solar mass"}, {"solLum", "solar luminosity"}, {"solRad", "solar radius"}, {"D", "debye"},
+    {"Sun", "Sun"}, {"bit", "bit"}, {"ohm", "ohm", "Ohm"}, {"erg", "erg"}, {"G", "gauss"}, {"lyr", "light year"},
+    {"photon", "photon", "ph"}, {"chan", "channel"}, {"bin", "bin"}, {"voxel", "voxel"}, {"u", "atomic mass unit"}, {"R", "rayleigh"},
+    {"adu", "analogue-to-digital unit"}, {"beam", "beam"}, {"angstrom", "angstrom", "Angstrom"}, {"%", "percent"},
 };
 
 /* The bases, each a unit of its own, and the primes of a scale. */
@@ -96,21 +92,19 @@ static const struct sign_word {
     {'[', "a square bracket", 0}, {'\\', "a backslash", 0}, {']', "a square bracket", 0}, {'^', "a caret", 0}, {'_', "an underscore", 0},
     {'`', "a grave accent", 0}, {'{', "a curly bracket", "("}, {'|', "a vertical bar", 0}, {'}', "a curly bracket", ")"},
     {'~', "a tilde", 0}, {0xa0, "a non-breaking space", " "}, {0x2009, "a thin space", " "}, {0x202f, "a narrow non-breaking space", " "},
-    {0x2002, "an en space", " "}, {0x2003, "an em space", " "}, {0x200a, "a hair space", " "}, {0x200b, "a space of no width", ""},
-    {0xfeff, "a byte order mark", ""}, {0xb5, "a micro sign", "u"}, {0x3bc, "the Greek letter mu", "u"}, {0xb7, "a raised point", "."},
-    {0x22c5, "a raised point", "."}, {0x2022, "a bullet", "."}, {0x2219, "a bullet", "."}, {0xd7, "a multiplication sign", "*"},
-    {0x2217, "a star sign", "*"}, {0x2215, "a division slash", "/"}, {0x2044, "a fraction slash", "/"}, {0xf7, "a division sign", "/"},
-    {0x2212, "a minus sign", "-"}, {0x2010, "a typeset hyphen", "-"}, {0x2011, "a non-breaking hyphen", "-"}, {0x2013, "an en dash", "-"},
-    {0x2014, "an em dash", "-"}, {0x207b, "a superscript minus", "-"}, {0x207a, "a superscript plus", "+"},
-    {0x2070, "a superscript zero", "0"}, {0xb9, "a superscript one", "1"}, {0xb2, "a superscript two", "2"},
-    {0xb3, "a superscript three", "3"}, {0x2074, "a superscript four", "4"}, {0x2075, "a superscript five", "5"},
-    {0x2076, "a superscript six", "6"}, {0x2077, "a superscript seven", "7"}, {0x2078, "a superscript eight", "8"},
-    {0x2079, "a superscript nine", "9"}, {0x2018, "a curly quote", "'"}, {0x2019, "a curly quote", "'"},
-    {0x201c, "a curly double quote", "\""}, {0x201d, "a curly double quote", "\""}, {0xb0, "a degree sign", "deg"},
-    {0x2032, "a prime for minutes of arc", "arcmin"}, {0x2033, "a double prime for seconds of arc", "arcsec"},
-    {0xc5, "the letter A with a ring", "angstrom"}, {0x212b, "an angstrom sign", "angstrom"}, {0x3a9, "the Greek letter omega", "ohm"},
-    {0x2126, "an ohm sign", "ohm"}, {0x2299, "a sign for the Sun", 0}, {0x2609, "a sign for the Sun", 0},
-    {0x2103, "a sign for degrees Celsius", 0}, {0x221a, "a root sign", 0}, {0x2030, "a per mille sign", 0},
+    {0xb5, "a micro sign", "u"}, {0x3bc, "the Greek letter mu", "u"}, {0xb7, "a raised point", "."}, {0x22c5, "a raised point", "."},
+    {0x2022, "a bullet", "."}, {0xd7, "a multiplication sign", "*"}, {0x2044, "a fraction slash", "/"}, {0x2212, "a minus sign", "-"},
+    {0x2011, "a non-breaking hyphen", "-"}, {0x2013, "an en dash", "-"}, {0x2014, "an em dash", "-"}, {0x207b, "a superscript minus", "-"},
+    {0x207a, "a superscript plus", "+"}, {0x2070, "a superscript zero", "0"}, {0xb9, "a superscript one", "1"},
+    {0xb2, "a superscript two", "2"}, {0xb3, "a superscript three", "3"}, {0x2074, "a superscript four", "4"},
+    {0x2075, "a superscript five", "5"}, {0x2076, "a superscript six", "6"}, {0x2077, "a superscript seven", "7"},
+    {0x2078, "a superscript eight", "8"}, {0x2079, "a superscript nine", "9"}, {0x2018, "a curly quote", "'"},
+    {0x2019, "a curly quote", "'"}, {0x201c, "a curly double quote", "\""}, {0x201d, "a curly double quote", "\""},
+    {0xb0, "a degree sign", "deg"}, {0x2032, "a prime for minutes of arc", "arcmin"},
+    {0x2033, "a double prime for seconds of arc", "arcsec"}, {0xc5, "the letter A with a ring", "angstrom"},
+    {0x212b, "an angstrom sign", "angstrom"}, {0x3a9, "the Greek letter omega", "ohm"}, {0x2126, "an ohm sign", "ohm"},
+    {0x2299, "a sign for the Sun", 0}, {0x2609, "a sign for the Sun", 0}, {0x2103, "a sign for degrees Celsius", 0},
+    {0x221a, "a root sign", 0}, {0x2030, "a per mille sign", 0},
 };
 enum { SIGNS = sizeof sign_words / sizeof sign_words[0] };
 

@@ -118,8 +118,9 @@ static bool says(const char *label, const uint8_t *record, const struct said *s,
 static void check_suggestion(const struct advice *a, const char *label, const struct suggestion *s)
 {
     static struct said next, rest;
-    uint8_t here[THALINGUZE_RECORD_SIZE], there[THALINGUZE_RECORD_SIZE];
-    bool good = ask(a->notation, s->label, here) == THALINGUZE_ACCEPTED && thalinguze_known(here) && thalinguze_lawful(here);
+    struct reading r = ask(a->notation, s->label), other = ask(s->source, a->plain.s);
+    const uint8_t *here = r.record, *there = other.record;
+    bool good = r.number == THALINGUZE_ACCEPTED && thalinguze_known(here) && thalinguze_lawful(here);
     if (!good)
         fail("refused or unknown", a->notation, label, s->label);
     suggested[s->claim]++;
@@ -132,7 +133,7 @@ static void check_suggestion(const struct advice *a, const char *label, const st
     if (s->claim == NEXT || s->claim == REST)
         good = says(s->label, here, s->claim == NEXT ? &next : &rest, true) && !says(s->label, here, s->claim == NEXT ? &rest : &next, true);
     if (s->claim == ANOTHER)
-        good = s->source != a->notation && ask(s->source, a->plain.s, there) == 0 && thalinguze_known(there) && same_terms(here, there, true);
+        good = s->source != a->notation && other.number == 0 && thalinguze_known(there) && same_terms(here, there, true);
     if (!good)
         fail("another meaning", a->notation, label, s->label);
 }
@@ -140,18 +141,18 @@ static void check_suggestion(const struct advice *a, const char *label, const st
 static void walk(uint32_t notation, const char *label)
 {
     static struct advice a;
-    uint8_t record[THALINGUZE_RECORD_SIZE], meant[THALINGUZE_RECORD_SIZE];
-    uint32_t number = ask(notation, label, record);
+    struct reading r = ask(notation, label);
     tried++;
-    if (number == THALINGUZE_ACCEPTED) {
-        advise_on_spelling(&a, notation, label);
-        for (unsigned i = 0; i < a.count; i++)
-            if (!is_sound(notation, a.list[i].label, meant) || !same_terms(record, meant, false) || a.list[i].claim != ASKED)
+    advise(&a, notation, label, r.number);
+    if (r.number == THALINGUZE_ACCEPTED) {
+        for (unsigned i = 0; i < a.count; i++) {
+            struct reading meant = ask(notation, a.list[i].label);
+            if (meant.number || !thalinguze_known(meant.record) || !same_terms(r.record, meant.record, false) || a.list[i].claim != ASKED)
                 fail("another spelling", notation, label, a.list[i].label);
+        }
         return;
     }
     refused++;
-    advise(&a, notation, label, number);
     for (unsigned i = 0; i < a.count; i++)
         check_suggestion(&a, label, &a.list[i]);
     if (a.count && (strstr(label, "log(") || strstr(label, "sqrt(") || strchr(label, '[') || strstr(label, "\xc2\xb0" "C")))
@@ -187,11 +188,7 @@ static void walk_expected(void)
     for (size_t i = 0; i < sizeof expected / sizeof expected[0]; i++) {
         static struct advice a;
         uint32_t n = expected[i].notation;
-        uint8_t record[THALINGUZE_RECORD_SIZE];
-        if (ask(n, expected[i].label, record) == THALINGUZE_ACCEPTED)
-            advise_on_spelling(&a, n, expected[i].label);
-        else
-            advise(&a, n, expected[i].label, ask(n, expected[i].label, record));
+        advise(&a, n, expected[i].label, ask(n, expected[i].label).number);
         walk(n, expected[i].label);
         if (!same(a.count ? a.list[0].label : NULL, expected[i].first) || (expected[i].second && !same(a.list[1].label, expected[i].second)))
             fail("another suggestion", n, expected[i].label, a.count ? a.list[0].label : "none");
@@ -201,22 +198,21 @@ static void walk_expected(void)
 /* the labels in the tables of words, and that no spelling is known in two notations as two units */
 static void walk_words(void)
 {
-    uint8_t record[THALINGUZE_RECORD_SIZE], other[THALINGUZE_RECORD_SIZE];
     for (uint32_t n = 1; n <= NOTATIONS; n++)
         for (unsigned i = 0; i < 3; i++)
-            if (!is_sound(n, notation_words[n].examples[i], record))
+            if (!is_sound(n, notation_words[n].examples[i]))
                 fail("an example", n, notation_words[n].examples[i], "");
     for (unsigned i = 0; i < SPELLINGS; i++)
-        if (!is_sound(THALINGUZE_FITS, spelling_words[i][1], record) && !is_sound(THALINGUZE_OGIP, spelling_words[i][1], record))
+        if (!is_sound(THALINGUZE_FITS, spelling_words[i][1]) && !is_sound(THALINGUZE_OGIP, spelling_words[i][1]))
             fail("a usual spelling", 1, spelling_words[i][0], spelling_words[i][1]);
     for (int p = 0; p <= PREFIXES; p++)
         for (int u = 1; u <= THALINGUZE_UNITS * 2; u++) {
-            const struct unit_word *w = &unit_words[(u + 1) / 2];
+            const char *const *w = unit_words[(u + 1) / 2];
             struct text t = {0};
-            put(&t, "%s%s", prefix_words[p].symbol, u % 2 || !w->other ? w->symbol : w->other);
+            put(&t, "%s%s", prefix_words[p].symbol, u % 2 || !w[OTHER] ? w[SYMBOL] : w[OTHER]);
             for (uint32_t n = 1; n <= NOTATIONS; n++)
                 for (uint32_t m = 1; m < n; m++)
-                    if (is_sound(n, t.s, record) && is_sound(m, t.s, other) && !same_terms(record, other, true))
+                    if (is_sound(n, t.s) && is_sound(m, t.s) && !same_terms(ask(n, t.s).record, ask(m, t.s).record, true))
                         fail("two units", n, t.s, notation_words[m].name);
         }
 }

@@ -85,7 +85,7 @@ has 0 cds % 'Size: 1/100.'
 has 0 cds 10+3pix/h 'Accepted: ten to the power 3, pixel, hour to the power minus 1.' 'Size: 5/18 of a pixel per second.'
 has 0 fits furlong 'Accepted, but 1 unit is unknown: furlong.' 'It reads: femto unknown unit urlong.'
 has 0 vou "'furlong'" "Accepted, but 1 unit is unknown: 'furlong'." 'It reads: unknown unit furlong.'
-has 0 ogip erg/kmin 'Accepted, but a unit has a prefix that it does not take in OGIP: kmin.' 'Not recommended: erg.'
+has 0 ogip erg/kmin 'Accepted, but with a prefix on a unit that takes none in OGIP: kmin.' 'Not recommended: erg.'
 has 0 fits KM/S 'Did you mean: km/s'
 has 0 ogip KM/S/MPC 'Did you mean: km/s/Mpc' 'Did you mean: km/s/mpc'
 for case in 'fits:kg s/m' 'ogip:kg/m s' 'cds:kg/m.s' 'vou:kg.s/m'; do

@@ -1,58 +1,50 @@
-/* The commands rewrite and convert. Results are on standard output, refusals on standard error. */
+/* The commands rewrite, convert and list. Results are on standard output, refusals on standard error. */
 #include <inttypes.h>
 #include "command.h"
 
 /* why a term has no form in the target, if it has none */
-static void blame_term(uint32_t source, const char *label, const uint8_t *record, unsigned i, uint32_t target)
-{
+static void blame_term(uint32_t source, const char *label, const uint8_t *record, unsigned i, uint32_t target) {
     const struct notation_word *here = &notation_words[source], *there = &notation_words[target];
     struct text spelling = spelling_of(label, record, i), exponent = {0}, metre = {0}, unused = {0}, said = {0}, other = {0};
-    uint8_t alone[THALINGUZE_RECORD_SIZE];
     put_sixtieths(&exponent, thalinguze_term_exponent(record, i));
     put(&metre, "m**(%s)", exponent.s);
     if (ask_rewriting(THALINGUZE_OGIP, metre.s, target, &unused) == THALINGUZE_NO_FORM)
         fprintf(stderr, "%s has the exponent %s. In %s %s.\n", spelling.s, exponent.s, there->name, there->powers);
     if (ask_rewriting(source, spelling.s, target, &unused) != THALINGUZE_NO_FORM)
         return;
-    ask(source, spelling.s, alone);
-    say_reading(&said, spelling.s, alone);
-    if (ask(target, spelling.s, alone) == THALINGUZE_ACCEPTED)
-        say_reading(&other, spelling.s, alone);
+    say_reading(&said, spelling.s, ask(source, spelling.s).record);
+    if (accepts(target, spelling.s))
+        say_reading(&other, spelling.s, ask(target, spelling.s).record);
     fprintf(stderr, "%s is %s in %s, %s %s%s%s.\n", spelling.s, said.s, here->name, other.length ? "but would be" : "which", other.s,
             other.length ? " in " : there->name, other.length ? there->name : " does not have");
 }
 
-int rewrite_label(uint32_t source, const char *label, uint32_t target)
-{
+int rewrite_label(uint32_t source, const char *label, uint32_t target) {
     struct text result = {0};
-    uint8_t record[THALINGUZE_RECORD_SIZE];
+    struct reading r = ask(source, label);
     uint32_t number = ask_rewriting(source, label, target, &result);
-    ask(source, label, record);
     if (number == THALINGUZE_ACCEPTED)
         puts(result.s);
     else
         report_refusal(stderr, number < THALINGUZE_UNKNOWN_UNIT ? source : target, label, number);
-    for (unsigned i = 0; i < thalinguze_count(record) && number == THALINGUZE_NO_FORM; i++)
-        blame_term(source, label, record, i, target);
+    for (unsigned i = 0; i < thalinguze_count(r.record) && number == THALINGUZE_NO_FORM; i++)
+        blame_term(source, label, r.record, i, target);
     return number == THALINGUZE_ACCEPTED ? 0 : REFUSED;
 }
 
 /* what one of two labels has to do with the refusal of a conversion */
-static void explain(const char *which, uint32_t notation, const char *label, uint32_t number)
-{
-    uint8_t record[THALINGUZE_RECORD_SIZE];
+static void explain(const char *which, uint32_t notation, const char *label, uint32_t number) {
     struct text said = {0};
-    ask(notation, label, record);
-    say_dimensions(&said, record);
+    struct reading r = ask(notation, label);
+    say_dimensions(&said, r.record);
     if (number == THALINGUZE_DIMENSIONS_DIFFER)
         fprintf(stderr, "The dimensions of the %s label: %s.\n", which, said.s);
-    for (unsigned i = 0; i < thalinguze_count(record) && number == THALINGUZE_UNKNOWN_UNIT; i++)
-        if (thalinguze_term_unit(record, i) == THALINGUZE_UNIT_UNKNOWN)
-            fprintf(stderr, "Unknown in the %s label, in %s: %s.\n", which, notation_words[notation].name, spelling_of(label, record, i).s);
+    for (unsigned i = 0; i < thalinguze_count(r.record) && number == THALINGUZE_UNKNOWN_UNIT; i++)
+        if (thalinguze_term_unit(r.record, i) == THALINGUZE_UNIT_UNKNOWN)
+            fprintf(stderr, "Unknown in the %s label, in %s: %s.\n", which, notation_words[notation].name, spelling_of(label, r.record, i).s);
 }
 
-int convert_labels(uint32_t first, const char *label, uint32_t second, const char *other, bool in_full)
-{
+int convert_labels(uint32_t first, const char *label, uint32_t second, const char *other, bool in_full) {
     uint8_t record[THALINGUZE_CONVERSION_SIZE];
     struct text factor = {0};
     uint32_t number = thalinguze_convert(first, (const uint8_t *)label, strlen(label), second, (const uint8_t *)other, strlen(other),
@@ -72,5 +64,22 @@ int convert_labels(uint32_t first, const char *label, uint32_t second, const cha
     if (k || in_full)
         printf("n = %" PRId64 ", d = %" PRId64 ", k = %s%" PRId64 ": the factor is n/d times ten to the power k.\n", n, d,
                k < 0 ? "minus " : "", k < 0 ? -k : k);
+    return 0;
+}
+
+static void list_name(uint32_t notation, const char *name, int unit) {
+    struct text kilo = {0};
+    put(&kilo, "%s%s", prefix_words[THALINGUZE_PREFIX_KILO].symbol, name);
+    bool prefixes = is_sound(notation, kilo.s) && thalinguze_term_unit(ask(notation, kilo.s).record, 0) == unit;
+    if (is_sound(notation, name) && thalinguze_term_unit(ask(notation, name).record, 0) == unit)
+        printf("%s: %s, %s\n", name, unit_words[unit][WORD], prefixes ? "takes prefixes" : "no prefixes");
+}
+
+int list_units(uint32_t notation) {
+    for (int unit = 1; unit <= THALINGUZE_UNITS; unit++) {
+        list_name(notation, unit_words[unit][SYMBOL], unit);
+        if (unit_words[unit][OTHER])
+            list_name(notation, unit_words[unit][OTHER], unit);
+    }
     return 0;
 }

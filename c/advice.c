@@ -70,7 +70,7 @@ static void give_rules(struct advice *a, const bool used[HABITS], bool slashes) 
 static void suggest_by_habit(struct advice *a) {
     uint32_t n = a->notation, pivot = strchr(a->plain.s, '%') ? THALINGUZE_CDS : THALINGUZE_OGIP;
     struct text near = {0}, split = {0}, near_below = {0}, split_below = {0};
-    bool used[HABITS], unused[HABITS], whole = replace_habits(n, a->plain.s, &near, used);
+    bool used[HABITS] = {0}, unused[HABITS] = {0}, whole = replace_habits(n, a->plain.s, &near, used);
     bool has_split = replace_habits(pivot, a->plain.s, &split, unused);
     give_rules(a, used, has_split && !whole && strchr(near.s, '/'));
     put_below(near.s, joint_in(n), &near_below);
@@ -114,9 +114,8 @@ void advise(struct advice *a, uint32_t notation, const char *label, uint32_t num
         offer(a, SAME, label);
         a->count = a->list[0].claim == ASKED ? a->count : 0;
     }
-    if (number != THALINGUZE_BYTE_OUT_OF_RANGE && number != THALINGUZE_NOT_IN_GRAMMAR)
-        return;
-    if (!replace_signs(notation, label, &a->plain, &a->reasons))
+    bool advised = number == THALINGUZE_BYTE_OUT_OF_RANGE || number == THALINGUZE_NOT_IN_GRAMMAR;
+    if (!advised || !replace_signs(notation, label, &a->plain, &a->reasons))
         return;
     if (strspn(a->plain.s, "- ") == a->plain.length) {
         give_reason(&a->reasons, "Where there is no unit, the label is empty.");

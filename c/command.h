@@ -2,6 +2,7 @@
 #ifndef COMMAND_H
 #define COMMAND_H
 
+#include <limits.h>
 #include <stdarg.h>
 #include <stdbool.h>
 #include <stdio.h>
@@ -9,7 +10,6 @@
 #include "words.h"
 
 enum { REFUSED = 1, WRONG_CALL = 2 }; /* exit statuses */
-
 /* Text that is added to, ended by a byte 0; starts as {0}. What does not fit is left out; a label of that length is refused anyway. */
 enum { TEXT_ROOM = 4096 };
 struct text {
@@ -44,7 +44,7 @@ const struct sign_word *find_sign(unsigned code);
 /* habits.c: forms that a notation does not have, replaced by those that it has */
 enum habit { ENDS, FACTORS, JOINTS, POWERS, SPACES, HABITS };
 bool replace_habits(uint32_t notation, const char *label, struct text *result, bool used[HABITS]); /* whether it is accepted then */
-size_t leading_number(const char *label, int *k, bool *power_of_ten); /* its length, with what joins it to the rest, or 0 */
+size_t leading_number(const char *label, int *k); /* its length, with what joins it to the rest; INT_MAX if it is no power of ten */
 size_t exponent_length(const char *label, size_t at, struct text *exponent); /* of an exponent after a unit that ends there, or 0 */
 char joint_in(uint32_t notation);
 void put_below(const char *label, char joint, struct text *result); /* with brackets round all that follows a slash in its group */

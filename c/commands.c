@@ -76,10 +76,8 @@ static void list_name(uint32_t notation, const char *name, int unit) {
 }
 
 int list_units(uint32_t notation) {
-    for (int unit = 1; unit <= THALINGUZE_UNITS; unit++) {
-        list_name(notation, unit_words[unit][SYMBOL], unit);
-        if (unit_words[unit][OTHER])
-            list_name(notation, unit_words[unit][OTHER], unit);
-    }
+    for (int unit = 1; unit <= THALINGUZE_UNITS; unit++)
+        for (int name = SYMBOL; name <= OTHER && unit_words[unit][name]; name += OTHER - SYMBOL)
+            list_name(notation, unit_words[unit][name], unit);
     return 0;
 }

@@ -13,21 +13,19 @@ void give_reason(struct text *reasons, const char *format, ...) {
 }
 
 bool blame_meaning(const char *label, struct text *reasons) {
-    size_t before = reasons->length;
     int k = 0;
-    bool power_of_ten = true;
-    size_t number = leading_number(label, &k, &power_of_ten);
-    for (unsigned f = 0; f < FUNCTIONS; f++) {
+    size_t before = reasons->length, number = leading_number(label, &k);
+    for (unsigned f = 0; f < COUNT(function_words); f++) {
         const char *name = function_words[f], *at = strstr(label, name);
         if (at && (at == label || !isalnum((unsigned char)at[-1])) && at[strlen(name) + strspn(at + strlen(name), " ")] == '(')
-            give_reason(reasons, "Labels have no functions, and %s before a bracket is one. %s", name, strcmp(name, "sqrt") == 0
-                        ? "A root is the exponent 1/2 of each unit." : "Write the plain unit, and say outside the label what is taken of it.");
+            give_reason(reasons, "Labels have no functions, and %s before a bracket is one. %s.", name, strcmp(name, "sqrt") == 0
+                        ? "A root is the exponent 1/2 of each unit" : "Write the plain unit, and say the function outside the label");
     }
     if (strpbrk(label, "[]"))
         give_reason(reasons, "Labels have no square brackets. For a logarithm write the plain unit, and say log outside the label.");
     if (number && label[number] == 0)
         give_reason(reasons, "A number alone is no label. Where there is no unit, the label is empty.");
-    else if (!power_of_ten)
+    else if (k == INT_MAX)
         give_reason(reasons, "The only numbers before a unit are powers of ten. Take this one out and multiply the values by it.");
     return reasons->length > before;
 }

@@ -74,7 +74,7 @@ size_t exponent_length(const char *label, size_t at, struct text *exponent) {
     return goes_on ? 0 : length;
 }
 
-size_t leading_number(const char *s, int *k, bool *power_of_ten) {
+size_t leading_number(const char *s, int *k) {
     struct text exponent = {0};
     size_t whole = strspn(s, DIGITS), end = whole, one = strspn(s, "0."), power = 0;
     if (whole == 0)
@@ -83,19 +83,20 @@ size_t leading_number(const char *s, int *k, bool *power_of_ten) {
         power = power_length(s + 2, &exponent);
     if (s[end] == '.' && is_one_of(s[end + 1], DIGITS "eE"))
         end += 1 + strspn(s + end + 1, DIGITS);
-    *power_of_ten = one < end && s[one] == '1' && one + 1 + strspn(s + one + 1, "0.") >= end;
+    bool power_of_ten = one < end && s[one] == '1' && one + 1 + strspn(s + one + 1, "0.") >= end;
     *k = one < whole ? (int)(whole - one) - 1 : (int)whole - (int)one;
-    if (power && !strpbrk(exponent.s, "./")) {
-        *k = (int)strtol(exponent.s, NULL, 10);
+    if (power && exponent.length < 6 && !strpbrk(exponent.s, "./")) { /* more digits are in no label */
+        *k = atoi(exponent.s);
         end = 2 + power;
-    } else if (is_one_of(s[end], "eE") && starts_integer(s + end + 1)) {
-        *k += (int)strtol(s + end + 1, NULL, 10) % 10000; /* too large to be accepted, and small enough to be added */
+    } else if (is_one_of(s[end], "eE") && starts_integer(s + end + 1) && strspn(s + end + 2, DIGITS) < 5) {
+        *k += atoi(s + end + 1);
         end += 2 + strspn(s + end + 2, DIGITS);
     }
     end += strspn(s + end, " ");
     if (is_one_of(s[end], "*."))
         end += 1 + strspn(s + end + 1, " ");
-    *power_of_ten &= !is_one_of(s[end], DIGITS "*^.+-");
+    if (!power_of_ten || is_one_of(s[end], DIGITS "*^.+-"))
+        *k = INT_MAX;
     return end;
 }
 
@@ -127,11 +128,10 @@ static void replace_spaces(uint32_t notation, const char *s, struct text *to) {
 static void replace_factors(uint32_t notation, const char *s, struct text *to) {
     struct text as_it_is = {0}, in_ogip = {0};
     int k = 0;
-    bool power_of_ten = false;
-    size_t length = leading_number(s, &k, &power_of_ten);
+    size_t length = leading_number(s, &k);
     put(&as_it_is, "%.*sm", (int)length, s);
     put(&in_ogip, k ? "10**%d m" : "m", k);
-    bool written = power_of_ten && !accepts(notation, as_it_is.s) && put_beside_metre(notation, in_ogip.s, false, to);
+    bool written = length && !accepts(notation, as_it_is.s) && put_beside_metre(notation, in_ogip.s, false, to);
     put(to, "%s", s + (written ? length : 0));
 }
 
@@ -161,7 +161,6 @@ static void replace_powers(uint32_t notation, const char *s, struct text *to) {
 bool replace_habits(uint32_t notation, const char *label, struct text *result, bool used[HABITS]) {
     static void (*const replace[HABITS])(uint32_t, const char *, struct text *) = {replace_ends, replace_factors, replace_joints,
                                                                                    replace_powers, replace_spaces};
-    memset(used, 0, HABITS * sizeof used[0]);
     put(result, "%s", label);
     for (unsigned h = 0; h < 2 * HABITS && !accepts(notation, result->s); h++) { /* twice: without its spaces a sign may be another habit */
         struct text next = {0};

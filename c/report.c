@@ -19,7 +19,7 @@ static void print_first_sentence(uint32_t notation, const char *label, const uin
     if (unknown)
         printf("Accepted, but %u unit%s unknown: %s.\nIt reads: %s.\n", unknown, unknown == 1 ? " is" : "s are", blamed.s, said.s);
     else if (list_blamed(&blamed, notation, label, record, THALINGUZE_FIELD_LAWFUL))
-        printf("Accepted, but with a prefix on a unit that takes none in %s: %s.\nIt reads: %s.\n", notation_words[notation].name, blamed.s, said.s);
+        printf("Accepted, but with an unlawful prefix in %s: %s.\nIt reads: %s.\n", notation_words[notation].name, blamed.s, said.s);
     else
         printf("Accepted: %s.\n", said.s);
 }
@@ -40,19 +40,17 @@ static void print_sides(const char *label, const uint8_t *record, bool in_full) 
 /* the size, unless it is 1, and what goes without saying, if it is asked for */
 static void print_size(const uint8_t *record, bool in_full) {
     static const char *const answers[] = {"no", "yes"};
-    struct text size = {0}, dimensions = {0};
+    struct text size = {0};
     bool one = true;
-    int k = thalinguze_k(record);
+    int k = thalinguze_k(record), known = thalinguze_known(record);
     for (unsigned p = 0; p < THALINGUZE_PRIMES; p++)
         one &= thalinguze_scale(record, p) == 0;
     say_size(&size, record);
-    say_dimensions(&dimensions, record);
     if (in_full)
-        printf("Power of ten: %s%d.\nKnown: %s.\nLawful: %s.\nRecommended: %s.\nDimensions: %s%s.\n", k < 0 ? "minus " : "", k < 0 ? -k : k,
-               answers[thalinguze_known(record)], answers[thalinguze_lawful(record)], answers[thalinguze_recommended(record)], dimensions.s,
-               thalinguze_known(record) ? "" : ", with unknown units left out");
-    if (in_full || (thalinguze_known(record) && !one))
-        printf("Size: %s.\n", size.s);
+        printf("Power of ten: %s%d.\nKnown: %s.\nLawful: %s.\nRecommended: %s.\n", k < 0 ? "minus " : "", k < 0 ? -k : k, answers[known],
+               answers[thalinguze_lawful(record)], answers[thalinguze_recommended(record)]);
+    if (in_full || (known && !one))
+        printf("Size: %s%s.\n", size.s, known ? "" : ", with unknown units left out");
 }
 
 static void print_suggestions(FILE *out, const struct advice *a) {
@@ -87,8 +85,8 @@ void report_refusal(FILE *out, uint32_t notation, const char *label, uint32_t nu
         [THALINGUZE_TOO_LONG] = "the label has more than 255 bytes",
         [THALINGUZE_BYTE_OUT_OF_RANGE] = "the label has signs that are not plain ASCII",
         [THALINGUZE_NOT_IN_GRAMMAR] = "the label does not follow the rules of ",
-        [THALINGUZE_NUMBER_OUT_OF_BOUNDS] = "a number is out of bounds.\nExponents and powers of ten go from minus 99 to 99, with at most 4 digits "
-            "in a row.\nAn exponent may have parts that divide 60: halves, thirds, quarters, fifths, sixths and so on",
+        [THALINGUZE_NUMBER_OUT_OF_BOUNDS] = "a number is out of bounds.\nExponents and powers of ten go from minus 99 to 99, with 4 digits in a row "
+            "at most.\nAn exponent may have parts that divide 60: halves, thirds, quarters, fifths, sixths and so on",
         [THALINGUZE_TOO_DEEP] = "more than 8 brackets are open at once.\nTake brackets away",
         [THALINGUZE_TOO_MANY_TERMS] = "the label has more than 32 terms.\nWrite a unit that comes several times once, with an exponent",
         [THALINGUZE_UNKNOWN_UNIT] = "a unit is unknown, and so is its size",

@@ -6,18 +6,15 @@
 static unsigned decode(const char *s, size_t *length) {
     const unsigned char *u = (const unsigned char *)s;
     unsigned more = u[0] >= 0xf0 ? 3 : u[0] >= 0xe0 ? 2 : u[0] >= 0xc2 ? 1 : 0, code = more ? u[0] & (0x3fu >> more) : u[0];
-    for (*length = 1; *length <= more; ++*length) {
-        if ((u[*length] & 0xc0) != 0x80) {
-            *length = 1;
-            return u[0];
-        }
+    for (*length = 1; *length <= more && (u[*length] & 0xc0) == 0x80; ++*length)
         code = code << 6 | (u[*length] & 0x3fu);
-    }
-    return code;
+    bool whole = *length > more;
+    *length = whole ? *length : 1;
+    return whole ? code : u[0];
 }
 
 const struct sign_word *find_sign(unsigned code) {
-    for (unsigned i = 0; i < SIGNS; i++)
+    for (unsigned i = 0; i < COUNT(sign_words); i++)
         if (sign_words[i].code == code)
             return &sign_words[i];
     return NULL;

@@ -18,11 +18,9 @@ static bool is_form(const char *spelling, const char *prefix, const char *name, 
 static bool put_meant(uint32_t notation, const char *spelling, bool mega, struct text *to) {
     struct text usual = {0};
     for (int p = 0; p <= PREFIXES; p++)
-        for (unsigned i = 0; i < SPELLINGS && usual.length == 0; i++) {
-            const char *name = spelling_words[i][0], *prefix = prefix_words[p].symbol;
-            if (is_form(spelling, prefix, name, false) || is_form(spelling, prefix_words[p].word, name, false))
-                put(&usual, "%s%s", prefix, spelling_words[i][1]);
-        }
+        for (unsigned i = 0; i < COUNT(spelling_words) && usual.length == 0; i++)
+            if (is_form(spelling, prefix_words[p].symbol, spelling_words[i][0], 0) || is_form(spelling, prefix_words[p].word, spelling_words[i][0], 0))
+                put(&usual, "%s%s", prefix_words[p].symbol, spelling_words[i][1]);
     spelling = usual.length ? usual.s : spelling;
     for (int p = 0; p <= PREFIXES; p++)
         for (int u = 1; u <= THALINGUZE_UNITS; u++) {

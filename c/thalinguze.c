@@ -7,9 +7,8 @@ static const char help[] =
     "       thalinguze rewrite FROM LABEL TO         the label in another notation\n"
     "       thalinguze convert FROM LABEL TO LABEL   the factor between two labels\n"
     "       thalinguze list NOTATION                 the units that a notation knows\n"
-    "       thalinguze read --vectors                readings, for programs\n"
-    "       thalinguze convert --vectors             conversions, for programs\n"
-    "       thalinguze --version, thalinguze --help\n"
+    "       thalinguze read --vectors, convert --vectors   both for programs\n"
+    "       thalinguze --version, --help\n"
     "A notation is fits, ogip, cds or vou (vounits is the same), in small or capital\n"
     "letters. read also takes all, for every notation. A label is one argument: put\n"
     "quotes round it. With --long, read and convert leave nothing out.\n"
@@ -66,17 +65,14 @@ static int run_command(int count, char **words, bool in_full) {
     static const char *const names[] = {"read", "rewrite", "convert", "list"};
     static const int counts[] = {3, 4, 5, 2};
     int c = 0;
-    while (c < 4 && strcmp(words[0], names[c]) != 0)
+    while (c < 4 && (count == 0 || strcmp(words[0], names[c]) != 0))
         c++;
     if (c == 4)
         return wrong_call("the first word must be read, rewrite, convert or list");
     if (count == 2 && strcmp(words[1], "--vectors") == 0 && (c == 0 || c == 2))
         return print_vectors(c == 2);
-    if (count != counts[c]) {
-        struct text call = {0};
-        put(&call, "%s is called in another way; put quotes round a label with spaces or brackets", names[c]);
-        return wrong_call(call.s);
-    }
+    if (count != counts[c])
+        return wrong_call("there are too few words or too many; put quotes round a label with spaces or brackets");
     if (c == 0 && strcasecmp(words[1], "all") == 0)
         return read_label(1, NOTATIONS, words[2], in_full);
     uint32_t from = notation_of(words[1]), to = c == 1 || c == 2 ? notation_of(words[3]) : from;
@@ -101,7 +97,7 @@ int main(int argc, char **argv) {
     else if (count == 1 && strcmp(words[0], "--version") == 0)
         printf("thalinguze %s\n", THALINGUZE_VERSION_STRING);
     else
-        status = count ? run_command(count, words, in_full) : wrong_call("say what to do: read, rewrite, convert or list");
+        status = run_command(count, words, in_full);
     if (fflush(stdout) != 0 || ferror(stdout)) {
         perror("thalinguze: standard output");
         return WRONG_CALL;

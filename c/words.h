@@ -4,6 +4,8 @@
 
 #include "../include/thalinguze.h"
 
+#define COUNT(table) (sizeof(table) / sizeof((table)[0]))
+
 /* How many notations there are; the first has the number 1. */
 enum { NOTATIONS = THALINGUZE_VOUNITS };
 
@@ -25,7 +27,7 @@ static const struct notation_word notation_words[NOTATIONS + 1] = {
         "there are no spaces inside brackets or before an exponent", "an exponent comes after two stars, a fraction in brackets",
         "a power of ten is 10, two stars and its exponent", 0, {"kg m**2/s**3", "10**3 erg/(s cm**2)", "Hz**(1/2)"}},
     [THALINGUZE_CDS] = {"cds", "CDS", "()/*.+-%", "a point joins units", "there are no spaces",
-        "an exponent is a whole number straight after its unit", "a power of ten is 10 and its exponent with a plus or minus sign, without spaces",
+        "an exponent is a whole number straight after its unit", "a power of ten is 10 and its exponent with plus or minus, without spaces",
         0, {"kg.m2/s3", "10+3J/(s.cm2)", "km/s/Mpc"}},
     [THALINGUZE_VOUNITS] = {"vou", "VOUnits", "()/*.+-'", "a point joins units", "there are no spaces",
         "an exponent comes after two stars, a fraction in brackets", "a power of ten is 10, two stars and its exponent, without spaces",
@@ -45,7 +47,6 @@ static const struct prefix_word prefix_words[PREFIXES + 1] = {
     {"d", "deci", -1}, {"c", "centi", -2}, {"m", "milli", -3}, {"u", "micro", -6}, {"n", "nano", -9},
     {"p", "pico", -12}, {"f", "femto", -15}, {"a", "atto", -18}, {"z", "zepto", -21}, {"y", "yocto", -24},
 };
-
 /* A unit as labels write it, as a person says it, and its other name in labels, if it has one. */
 enum { SYMBOL, WORD, OTHER, WORDS };
 static const char *const unit_words[THALINGUZE_UNITS + 1][WORDS] = {
@@ -60,25 +61,20 @@ static const char *const unit_words[THALINGUZE_UNITS + 1][WORDS] = {
     {"photon", "photon", "ph"}, {"chan", "channel"}, {"bin", "bin"}, {"voxel", "voxel"}, {"u", "atomic mass unit"}, {"R", "rayleigh"},
     {"adu", "analogue-to-digital unit"}, {"beam", "beam"}, {"angstrom", "angstrom", "Angstrom"}, {"%", "percent"},
 };
-
 /* The bases, each a unit of its own, and the primes of a scale. */
 static const char *const base_symbols[THALINGUZE_BASES] = {
     "m", "g", "s", "A", "K", "mol", "cd", "rad", "sr", "arcsec", "bit", "AU", "pc", "eV", "mag", "pixel", "count", "Ry", "solMass", "solLum",
     "solRad", "D", "Sun", "lyr", "photon", "chan", "bin", "voxel", "u", "R", "adu", "beam",
 };
 static const int prime_words[THALINGUZE_PRIMES] = {2, 3, 5, 487};
-
 /* Spellings that no notation has, and a usual one of the same unit. Capitals, full names and a plural s are seen to in spelling.c. */
 static const char *const spelling_words[][2] = {
     {"sec", "s"}, {"hr", "h"}, {"meter", "m"}, {"micron", "um"}, {"cts", "count"}, {"cnt", "count"}, {"px", "pixel"},
     {"phot", "photon"}, {"ly", "lyr"}, {"Ang", "angstrom"}, {"Msun", "solMass"}, {"Lsun", "solLum"}, {"Rsun", "solRad"}, {"B", "byte"},
     {"asec", "arcsec"}, {"amin", "arcmin"}, {"bm", "beam"}, {"amu", "u"}, {"ster", "sr"},
 };
-enum { SPELLINGS = sizeof spelling_words / sizeof spelling_words[0] };
-
 /* Names that people put before a bracket for a function. */
 static const char *const function_words[] = {"log10", "log", "ln", "lg", "exp", "sqrt", "dex", "dB", "mag", "sin", "cos", "tan", "abs"};
-enum { FUNCTIONS = sizeof function_words / sizeof function_words[0] };
 
 /* Signs by their Unicode number: the name, and what labels have instead, a unit by its symbol, or NULL. */
 static const struct sign_word {
@@ -106,6 +102,5 @@ static const struct sign_word {
     {0x2299, "a sign for the Sun", 0}, {0x2609, "a sign for the Sun", 0}, {0x2103, "a sign for degrees Celsius", 0},
     {0x221a, "a root sign", 0}, {0x2030, "a per mille sign", 0},
 };
-enum { SIGNS = sizeof sign_words / sizeof sign_words[0] };
 
 #endif

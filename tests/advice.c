@@ -175,7 +175,7 @@ static const struct {
     {2, "ph.cm-2.s-1", "photon cm**(-2) s**(-1)", 0}, {2, "log10(count/s)", 0, 0}, {1, "m/s\xc2\xb2", "m/s2", 0}, {3, "m/s\xc2\xb2", "m/s2", 0},
     {1, "\xc2\xb0" "C", 0, 0}, {1, "10\xc2\xb3 m", "10**3 m", 0}, {2, "\xc3\x85", "angstrom", 0}, {3, "\xc3\x85", 0, 0}, {1, "counts/s/pixel", "count/(s pixel)", 0},
     {1, "KM/S", "km/s", 0}, {1, "counts", "count", 0}, {1, "sec", "s", 0}, {1, "DN", 0, 0}, {2, "KM/S/MPC", "km/s/Mpc", "km/s/mpc"}, {2, "ph", "photon", 0},
-    {3, "m.pixel", "m.pix", 0}, {1, "m", 0, 0}, {1, "(kg/m s)", "kg m-1 s", "kg m-1 s-1"}, {1, "%", 0, 0}, {1, "\xff", 0, 0},
+    {3, "m.pixel", "m.pix", 0}, {1, "m", 0, 0}, {1, "(kg/m s)", "kg m-1 s", "kg m-1 s-1"}, {1, "%", 0, 0}, {2, "10^10003 m", 0, 0}, {2, "1e10000 m", 0, 0}, {2, "10^99 m", "10**99 m", 0}, {1, "\xff", 0, 0},
 };
 
 static bool same(const char *a, const char *b)
@@ -202,7 +202,7 @@ static void walk_words(void)
         for (unsigned i = 0; i < 3; i++)
             if (!is_sound(n, notation_words[n].examples[i]))
                 fail("an example", n, notation_words[n].examples[i], "");
-    for (unsigned i = 0; i < SPELLINGS; i++)
+    for (unsigned i = 0; i < COUNT(spelling_words); i++)
         if (!is_sound(THALINGUZE_FITS, spelling_words[i][1]) && !is_sound(THALINGUZE_OGIP, spelling_words[i][1]))
             fail("a usual spelling", 1, spelling_words[i][0], spelling_words[i][1]);
     for (int p = 0; p <= PREFIXES; p++)

@@ -66,7 +66,6 @@ Power of ten: 0.
 Known: yes.
 Lawful: yes.
 Recommended: yes.
-Dimensions: metre.
 Size: 1 metre.
 END
 says 0 out read fits '' <<'END'
@@ -85,7 +84,7 @@ has 0 cds % 'Size: 1/100.'
 has 0 cds 10+3pix/h 'Accepted: ten to the power 3, pixel, hour to the power minus 1.' 'Size: 5/18 of a pixel per second.'
 has 0 fits furlong 'Accepted, but 1 unit is unknown: furlong.' 'It reads: femto unknown unit urlong.'
 has 0 vou "'furlong'" "Accepted, but 1 unit is unknown: 'furlong'." 'It reads: unknown unit furlong.'
-has 0 ogip erg/kmin 'Accepted, but with a prefix on a unit that takes none in OGIP: kmin.' 'Not recommended: erg.'
+has 0 ogip erg/kmin 'Accepted, but with an unlawful prefix in OGIP: kmin.' 'Not recommended: erg.'
 has 0 fits KM/S 'Did you mean: km/s'
 has 0 ogip KM/S/MPC 'Did you mean: km/s/Mpc' 'Did you mean: km/s/mpc'
 for case in 'fits:kg s/m' 'ogip:kg/m s' 'cds:kg/m.s' 'vou:kg.s/m'; do
@@ -112,7 +111,7 @@ As FITS this is photon, centimetre to the power minus 2, second to the power min
 END
 says 1 out read fits 'log10(count/s)' <<'END'
 Refused, number 4: the label does not follow the rules of FITS.
-Labels have no functions, and log10 before a bracket is one. Write the plain unit, and say outside the label what is taken of it.
+Labels have no functions, and log10 before a bracket is one. Write the plain unit, and say the function outside the label.
 Labels of FITS look like these: kg m2/s3; 10**3 erg/(s cm2); Hz(1/2)
 END
 says 1 out read fits 'm/s²' <<'END'

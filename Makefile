@@ -1,7 +1,7 @@
 # make: the library, the command and the line program, in build/. make run: what kg/m.s means in each notation; NOTATION=cds LABEL='km/h' for another.
 # make test: every program of tests/. make compare COUNT=100000: random cases against the second implementation, tests/independent.py.
 # make bench: how long reading takes and how much stack, beside other readers; see docs/PERFORMANCE.md. make clean: removes build/.
-NOTATION = fits ogip cds vou
+NOTATION = all
 export LABEL = kg/m.s
 COUNT = 100000
 CC = gcc
@@ -15,7 +15,7 @@ TESTS = $(addprefix build/tests/,limits header advice stack guard guard-plain pr
 all: $(LIBRARY) build/thalinguze build/label-lines
 
 run: all
-	@for n in $(NOTATION); do build/thalinguze read $$n "$$LABEL" || test $$? = 1; echo; done
+	@build/thalinguze read $(NOTATION) "$$LABEL" || test $$? = 1
 
 test: all $(TESTS)
 	@tests/vectors.sh

@@ -16,7 +16,7 @@ static void print_spellings(uint32_t notation)
     uint8_t label[LABEL_ROOM];
     for (int prefix = 0; prefix <= 20; prefix++)
         for (int unit = 1; unit <= THALINGUZE_UNITS; unit++)
-            print_line(notation, label, add(label, add(label, 0, prefix_words[prefix].symbol), unit_words[unit].symbol));
+            print_line(notation, label, add(label, add(label, 0, prefix_words[prefix].symbol), unit_words[unit][SYMBOL]));
 }
 
 static void print_many_terms(uint32_t notation)

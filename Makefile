@@ -10,7 +10,7 @@ SANITIZERS = -g -fsanitize=address,undefined -fno-sanitize-recover=all
 LIBRARY = build/libthalinguze.a
 HEADERS = include/thalinguze.h $(wildcard c/*.h)
 PARTS = $(patsubst c/%.c,build/%.o,$(wildcard c/*.c))
-TESTS = $(addprefix build/tests/,limits header advice stack guard guard-plain print_labels rewrite convert)
+TESTS = $(addprefix build/tests/,limits header advice stack guard guard-plain print_labels rewrite convert thalinguze)
 
 all: $(LIBRARY) build/thalinguze build/label-lines
 
@@ -23,7 +23,7 @@ test: all $(TESTS)
 	@tests/library.sh
 	@tests/header.sh
 	@build/tests/advice
-	@tests/command.sh
+	@tests/command.sh build/tests/thalinguze
 	@tests/readme.sh
 	@tests/second.sh 5000 1 all
 	@tests/independent.sh
@@ -70,6 +70,12 @@ build/tests/%: tests/%.c tests/arena.h tests/hex_label.h tests/labels.h tests/pa
 
 build/tests/stack: CFLAGS += -pthread
 build/tests/guard build/tests/advice build/tests/rewrite build/tests/convert: CFLAGS += $(SANITIZERS)
+
+# the command under the sanitizers
+build/tests/thalinguze: $(wildcard c/*.c) $(HEADERS) $(LIBRARY)
+	@mkdir -p build/tests
+	$(CC) $(CFLAGS) $(SANITIZERS) -o $@ $(filter %.c,$^) $(LIBRARY)
+
 build/tests/advice: $(filter-out c/thalinguze.c,$(wildcard c/*.c))
 build/tests/advice: LIBRARY += -lm
 

@@ -18,7 +18,7 @@ static bool starts_integer(const char *s) {
     return is_one_of(s[is_one_of(s[0], "+-")], DIGITS);
 }
 
-/* adds what stands beside the metre in an OGIP label, before or after it, as the notation writes it */
+/* adds what an OGIP label has beside its metre, before or after it, as the notation writes it */
 static bool put_beside_metre(uint32_t notation, const char *in_ogip, bool after, struct text *to) {
     struct text t = {0};
     bool written = ask_rewriting(THALINGUZE_OGIP, in_ogip, notation, &t) == THALINGUZE_ACCEPTED;

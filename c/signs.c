@@ -23,9 +23,8 @@ const struct sign_word *find_sign(unsigned code) {
 /* adds a sign's name to a list of them, once */
 static void add_name(struct text *names, const struct sign_word *sign, unsigned code) {
     struct text name = {0};
-    if (sign)
-        put(&name, "%s", sign->name);
-    else
+    put(&name, "%s", sign ? sign->name : "");
+    if (!sign)
         put(&name, code < 0x100 ? "the byte hexadecimal %02X" : "the character with the Unicode number %X", code);
     if (!strstr(names->s, name.s))
         put(names, "%s%s", names->length ? ", " : "", name.s);

@@ -13,7 +13,6 @@ static const char help[] =
     "letters. read also takes all, for every notation. A label is one argument: put\n"
     "quotes round it. With --long, read and convert leave nothing out.\n"
     "  thalinguze read cds 'kg/m.s'\n"
-    "  thalinguze read all 'erg/(s cm2)'\n"
     "  thalinguze rewrite cds '10+3pix/h' ogip\n"
     "  thalinguze convert cds km/h fits m/s\n"
     "A term is above the line if its exponent is positive, below if it is negative.\n"
@@ -28,8 +27,7 @@ static const char help[] =
     "3 CDS, 4 VOUnits), a space and the label's bytes in hexadecimal, or - for the\n"
     "empty label; for convert, a space and the same again. It prints each line with\n"
     "its answer, in the formats of vectors/README.md, and names malformed lines on\n"
-    "standard error.\n"
-    "  printf '3 6b672f6d2e73\\n' | thalinguze read --vectors\n";
+    "standard error.\n";
 
 static int wrong_call(const char *what) {
     fprintf(stderr, "thalinguze: %s\nFor help: thalinguze --help\n", what);
@@ -44,9 +42,14 @@ static uint32_t notation_of(const char *name) {
     return 0;
 }
 
-/* reads a label in the notations from the first to the last */
+/* reads a label in the notations from the first to the last; where they are several, it is said first which accept it */
 static int read_label(uint32_t first, uint32_t last, const char *label, bool in_full) {
     int status = REFUSED;
+    struct text names[2] = {{0}, {0}};
+    for (uint32_t n = first; n <= last; n++)
+        put(&names[accepts(n, label)], ", %s", notation_words[n].name);
+    if (first < last)
+        printf("Accepted in %s. Refused in %s.\n\n", names[1].length ? names[1].s + 2 : "none", names[0].length ? names[0].s + 2 : "none");
     for (uint32_t n = first; n <= last; n++) {
         struct reading r = ask(n, label);
         if (first < last)

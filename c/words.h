@@ -5,7 +5,6 @@
 #include "../include/thalinguze.h"
 
 #define COUNT(table) (sizeof(table) / sizeof((table)[0]))
-
 /* How many notations there are; the first has the number 1. */
 enum { NOTATIONS = THALINGUZE_VOUNITS };
 

@@ -1,7 +1,7 @@
 #!/bin/sh
 # What the command says for labels that tell much, its exit statuses, its wrong calls, its vectors, and what it does where it cannot write.
 set -eu
-command=build/thalinguze
+command=${1:-build/thalinguze}
 directory=build/tests/command
 tried=0
 mkdir -p "$directory"
@@ -135,8 +135,8 @@ has 1 cds 20% 'The only numbers before a unit are powers of ten. Take this one o
 has 1 cds erg/s.Å 'The unit erg is unknown in CDS.'
 has 1 fits % 'As CDS this is percent, which FITS does not have.'
 has 1 ogip m2 'FITS and CDS accept the label as it stands.' 'Write: m**2'
-has 0 all kg/m.s 'In CDS: Accepted: kilogram, metre to the power minus 1, second.' 'In FITS: Refused, number 4: the label does not follow the rules of FITS.'
-has 1 ALL 'm,s' 'In VOUnits: Refused, number 4: the label does not follow the rules of VOUnits.'
+has 0 all kg/m.s 'Accepted in CDS. Refused in FITS, OGIP, VOUnits.' 'In CDS: Accepted: kilogram, metre to the power minus 1, second.' 'In FITS: Refused, number 4: the label does not follow the rules of FITS.'
+has 1 ALL 'm,s' 'Accepted in none. Refused in FITS, OGIP, CDS, VOUnits.' 'In VOUnits: Refused, number 4: the label does not follow the rules of VOUnits.'
 
 # REWRITING, CONVERTING, LISTING
 

@@ -6,7 +6,7 @@ mkdir -p "$out"
 fail() { echo "README.md: $1"; exit 1; }
 
 # the first answer, of make run
-awk '/^    In FITS/{ seen = 1 } /^Above, in CDS/{ exit } seen { sub(/^    /, ""); print }' README.md | sed '$d' >"$out/printed"
+awk '/^    Accepted in /{ seen = 1 } /^Above, in CDS/{ exit } seen { sub(/^    /, ""); print }' README.md | sed '$d' >"$out/printed"
 build/thalinguze read all kg/m.s >"$out/said"
 diff "$out/printed" "$out/said" || fail 'make run says something else'
 

@@ -54,9 +54,8 @@ static void offer_split(struct advice *a, enum claim claim, const char *near, ui
 
 static void give_rules(struct advice *a, const bool used[HABITS], bool slashes) {
     const struct notation_word *w = &notation_words[a->notation];
-    bool one = strncmp(a->plain.s, "1/", 2) == 0;
-    const char *const rules[] = {[FACTORS] = one ? "no 1 is written before a slash" : w->factors, [JOINTS] = w->joints, [POWERS] = w->powers,
-                                 [SPACES] = w->spaces};
+    const char *factors = strncmp(a->plain.s, "1/", 2) == 0 ? "no 1 is written before a slash" : w->factors;
+    const char *const rules[] = {[FACTORS] = factors, [JOINTS] = w->joints, [POWERS] = w->powers, [SPACES] = w->spaces};
     if (used[ENDS])
         give_reason(&a->reasons, "Spaces and quotes round a label are no part of it.");
     for (unsigned h = FACTORS; h < HABITS; h++)
@@ -76,12 +75,12 @@ static void suggest_by_habit(struct advice *a) {
     put_below(near.s, joint_in(n), &near_below);
     put_below(split.s, joint_in(pivot), &split_below);
     struct reading next = ask(pivot, split.s), rest = ask(pivot, split_below.s);
-    if (has_split && rest.number == THALINGUZE_ACCEPTED && !same_terms(next.record, rest.record, false)) {
-        offer_split(a, NEXT, "", pivot, split.s);
+    if (!has_split || rest.number != THALINGUZE_ACCEPTED)
+        return;
+    bool two = !same_terms(next.record, rest.record, false);
+    offer_split(a, two ? NEXT : SAME, two ? "" : whole ? near.s : near_below.s, pivot, split.s);
+    if (two)
         offer_split(a, REST, near_below.s, pivot, split_below.s);
-    } else if (has_split) {
-        offer_split(a, SAME, whole ? near.s : near_below.s, pivot, split.s);
-    }
 }
 
 /* What other notations read, where they know every unit, in the library's own rewriting. */

@@ -4,7 +4,7 @@
 # make test: every program of tests/. make compare SEED=1: a million cases against the second implementation, tests/independent.py.
 # make guard COUNT=100000: random inputs through each call, with watched buffers, under sanitizers and under valgrind.
 # make bench: how long reading takes and how much stack, beside other readers; see docs/PERFORMANCE.md. make clean: removes build/.
-NOTATION = fits ogip cds vou
+NOTATION = all
 export LABEL = kg/m.s
 COUNT = 250000
 SEED = 1
@@ -14,8 +14,9 @@ SANITIZERS = -g -fsanitize=address,undefined -fno-sanitize-recover=all
 LIBRARY = build/libthalinguze.a
 SHARED = build/libthalinguze.so
 HEADERS = include/thalinguze.h $(wildcard c/*.h)
-PARTS = $(patsubst c/%.c,build/%.o,$(filter-out c/version.c,$(wildcard c/*.c)))
-TESTS = $(addprefix build/tests/,limits header advice stack guard guard-plain rewrite convert)
+SOURCES = $(filter-out c/version.c,$(wildcard c/*.c))
+PARTS = $(patsubst c/%.c,build/%.o,$(SOURCES))
+TESTS = $(addprefix build/tests/,limits header advice stack guard guard-plain rewrite convert thalinguze)
 
 # The version is the three numbers of the header. The shared library's soname has the first.
 VERSION := $(shell sed -n 's/^.define THALINGUZE_VERSION_[A-Z]* \([0-9][0-9]*\)$$/\1/p' include/thalinguze.h | paste -s -d .)
@@ -31,7 +32,7 @@ all: $(BUILT)
 
 # The four sample lines of document 01 are the first of vectors/lines.in.
 run: all
-	@for n in $(NOTATION); do build/thalinguze read $$n "$$LABEL" || test $$? = 1; echo; done
+	@build/thalinguze read $(NOTATION) "$$LABEL" || test $$? = 1
 ifeq ($(origin LABEL)-$(origin NOTATION),file-file)
 	@echo 'Lines, each with an id, a notation, a label and the notation to write it in:'
 	@head -n 4 vectors/lines.in
@@ -46,7 +47,7 @@ test: all $(TESTS)
 	@tests/library.sh
 	@tests/header.sh
 	@build/tests/advice
-	@tests/read.sh
+	@tests/command.sh build/tests/thalinguze
 	@tests/readme.sh
 	@tests/second.sh 5000 1 1
 	@tests/independent.sh
@@ -154,7 +155,14 @@ build/tests/%: tests/%.c tests/arena.h tests/hex_label.h tests/labels.h tests/pa
 
 build/tests/stack: CFLAGS += -pthread
 build/tests/guard build/tests/advice build/tests/rewrite build/tests/convert: CFLAGS += $(SANITIZERS)
-build/tests/advice: c/advice.c c/loose.c c/loose_numbers.c c/meant.c
+
+# the command under the sanitizers
+build/tests/thalinguze: $(SOURCES) $(HEADERS) $(LIBRARY)
+	@mkdir -p build/tests
+	$(CC) $(CFLAGS) $(SANITIZERS) -o $@ $(filter %.c,$^) $(LIBRARY)
+
+build/tests/advice: $(filter-out c/thalinguze.c,$(SOURCES))
+build/tests/advice: LIBRARY += -lm
 
 build/tests/guard-plain: tests/guard.c tests/arena.h tests/labels.h $(HEADERS) $(LIBRARY)
 	@mkdir -p build/tests

@@ -1,229 +1,108 @@
-/* A reading, accepted or refused, told to a person: one fact to a line, in words. */
-#include <stdbool.h>
-#include <string.h>
-#include "advice.h"
-#include "meant.h"
-#include "report.h"
-#include "sixtieths.h"
-#include "words.h"
+/* Readings, accepted or refused, told to a person: the answer in the first sentence, then one fact on each line. */
+#include "command.h"
 
-void print_label(const uint8_t *label, size_t size)
-{
-    const size_t shown = 40;
-    size_t end = size > THALINGUZE_MAX_LABEL_SIZE ? shown : size;
-    if (size == 0)
-        printf("The empty label");
-    for (size_t i = 0; i < end; i++)
-        if (label[i] >= 0x20 && label[i] <= 0x7e)
-            putchar(label[i]);
-        else
-            printf("<%02X>", label[i]);
-    if (end < size)
-        printf(" and so on, %zu bytes,", size);
-}
-
-/* ACCEPTED */
-
-static void print_power(int64_t exponent)
-{
-    if (exponent == THALINGUZE_SIXTIETHS)
-        return;
-    printf(" to the power ");
-    print_sixtieths(exponent);
-}
-
-static void print_spelling(const uint8_t *label, const uint8_t *record, unsigned i)
-{
-    printf("%.*s", (int)thalinguze_term_length(record, i), (const char *)label + thalinguze_term_start(record, i));
-}
-
-/* the letters of an unknown unit */
-static void print_letters(const uint8_t *label, const uint8_t *record, unsigned i)
-{
-    printf("%.*s", (int)thalinguze_term_letters_length(record, i), (const char *)label + thalinguze_term_letters_start(record, i));
-}
-
-static void print_term(const uint8_t *label, const uint8_t *record, unsigned i)
-{
-    const struct prefix_word *prefix = &prefix_words[thalinguze_term_prefix(record, i)];
-    int unit = thalinguze_term_unit(record, i);
-    printf("Term %u, ", i + 1);
-    print_spelling(label, record, i);
-    printf(": ");
-    if (unit != THALINGUZE_UNIT_UNKNOWN) {
-        printf("%s%s%s", prefix->word, strchr(unit_words[unit].word, ' ') && *prefix->word ? " " : "", unit_words[unit].word);
-    } else {
-        if (*prefix->word)
-            printf("prefix %s and ", prefix->word);
-        printf("unknown unit ");
-        print_letters(label, record, i);
-    }
-    print_power(thalinguze_term_exponent(record, i));
-    printf(", %s the line\n", thalinguze_term_exponent(record, i) < 0 ? "below" : "above");
-}
-
-/* the verdicts on one term: those on its spelling as a label of its own */
-static void read_term(uint32_t notation, const uint8_t *label, const uint8_t *record, unsigned i, uint8_t *alone)
-{
-    memset(alone, 0, THALINGUZE_RECORD_SIZE);
-    thalinguze_read(notation, label + thalinguze_term_start(record, i), thalinguze_term_length(record, i), alone, THALINGUZE_RECORD_SIZE);
-}
-
-static void print_unknown(uint32_t notation, const uint8_t *label, const uint8_t *record, unsigned i)
-{
-    printf(": ");
-    print_letters(label, record, i);
-    printf(" is no unit that %s knows", notation_words[notation].name);
-}
-
-/* a verdict, and where it is no, each term to blame */
-static void print_verdict(uint32_t notation, const uint8_t *label, const uint8_t *record, unsigned field)
-{
-    static const char *const names[] = {"Known", "Lawful", "Recommended"};
-    printf("%s: %s", names[field - THALINGUZE_FIELD_KNOWN], thalinguze_field(record, field) ? "yes\n" : "no");
-    if (thalinguze_field(record, field))
-        return;
-    for (unsigned i = 0, blamed = 0; i < thalinguze_count(record); i++) {
-        uint8_t alone[THALINGUZE_RECORD_SIZE];
-        int unit = thalinguze_term_unit(record, i);
-        read_term(notation, label, record, i, alone);
-        if (thalinguze_field(alone, field))
-            continue;
-        printf(blamed++ ? "; term %u, " : ", because of term %u, ", i + 1);
-        print_spelling(label, record, i);
-        if (unit == THALINGUZE_UNIT_UNKNOWN && field == THALINGUZE_FIELD_KNOWN)
-            print_unknown(notation, label, record, i);
-        else if (unit == THALINGUZE_UNIT_UNKNOWN)
-            printf(": the unit is unknown");
-        else if (field == THALINGUZE_FIELD_LAWFUL)
-            printf(": the unit %s takes no prefix in %s", unit_words[unit].word, notation_words[notation].name);
-        else
-            printf(": the unit %s is not recommended", unit_words[unit].word);
-    }
-    printf("\n");
-}
-
-static void print_dimensions(const uint8_t *record)
-{
-    bool any = false;
-    printf("Dimensions: ");
-    for (unsigned b = 0; b < THALINGUZE_BASES; b++) {
-        int64_t exponent = thalinguze_dimension(record, b);
-        if (exponent == 0)
-            continue;
-        printf("%s%s", any ? ", " : "", base_words[b].word);
-        print_power(exponent);
-        any = true;
-    }
-    printf("%s%s\n", any ? "" : "none", thalinguze_known(record) ? "" : ", with unknown units left out");
-}
-
-static void print_scale(const uint8_t *record)
-{
-    int64_t twos = thalinguze_scale(record, THALINGUZE_PRIME_2), fives = thalinguze_scale(record, THALINGUZE_PRIME_5);
-    bool others = thalinguze_scale(record, THALINGUZE_PRIME_3) || thalinguze_scale(record, THALINGUZE_PRIME_487), any = false;
-    printf("Scale: ");
-    for (unsigned p = 0; p < THALINGUZE_PRIMES; p++) {
-        int64_t exponent = thalinguze_scale(record, p);
-        if (exponent == 0)
-            continue;
-        printf("%s%d", any ? " times " : "", prime_words[p]);
-        print_power(exponent);
-        any = true;
-    }
-    if (!any)
-        printf("1");
-    if (any && twos == fives && !others) {
-        printf(", which is 10");
-        print_power(twos);
-    }
-    printf("\n");
-}
-
-/* for a term that is unknown or unlawful: what people mean by its spelling, and how to write that */
-static void print_meant(uint32_t notation, const uint8_t *label, const uint8_t *record, unsigned i)
-{
-    uint8_t alone[THALINGUZE_RECORD_SIZE];
-    const struct meant_unit *m = find_meant_unit(notation, label + thalinguze_term_start(record, i), thalinguze_term_length(record, i));
-    read_term(notation, label, record, i, alone);
-    if (m && !(thalinguze_known(alone) && thalinguze_lawful(alone)))
-        printf("If term %u is meant to be %s, write: %s\n", i + 1, m->word, m->label[notation]);
-}
-
-void report_reading(uint32_t notation, const uint8_t *label, const uint8_t *record)
-{
-    unsigned count = thalinguze_count(record);
-    if (count == 0)
-        printf("Accepted. It has no terms: it stands for a plain number, without a unit.\n");
-    else
-        printf("Accepted, with %u term%s.\n", count, count == 1 ? "" : "s");
-    for (unsigned i = 0; i < count; i++)
-        print_term(label, record, i);
-    printf("Power of ten: %d\n", thalinguze_k(record));
-    for (unsigned field = THALINGUZE_FIELD_KNOWN; field <= THALINGUZE_FIELD_RECOMMENDED; field++)
-        print_verdict(notation, label, record, field);
-    print_dimensions(record);
-    print_scale(record);
-    for (unsigned i = 0; i < count; i++)
-        print_meant(notation, label, record, i);
-}
-
-/* REFUSED */
-
-static void print_condition(uint32_t notation, size_t size, uint32_t number)
-{
-    static const char *const conditions[] = {
-        [THALINGUZE_BYTE_OUT_OF_RANGE] = "a byte of the label lies outside hexadecimal 20 to 7E.",
-        [THALINGUZE_NUMBER_OUT_OF_BOUNDS] = "a run of digits, an exponent or the factor breaks its bound.",
-        [THALINGUZE_TOO_DEEP] = "more than 8 brackets are open at once.",
-        [THALINGUZE_TOO_MANY_TERMS] = "the label has more than 32 terms.",
-    };
-    printf("Refused, number %u: ", (unsigned)number);
-    if (number == THALINGUZE_TOO_LONG)
-        printf("the label has %zu bytes, and a label may have 255.\n", size);
-    else if (number == THALINGUZE_NOT_IN_GRAMMAR)
-        printf("the label does not follow the rules of %s.\n", notation_words[notation].name);
-    else
-        printf("%s\n", conditions[number]);
-}
-
-/* which notations accept a label that this one refuses; it is not read in them any further */
-static void print_other_notations(uint32_t notation, const uint8_t *label, size_t size)
-{
-    uint8_t unread;
-    uint32_t accepting[4];
+/* adds the spellings of the terms on which a verdict is no: those on which it is no alone; how many they are */
+static unsigned list_blamed(struct text *list, uint32_t notation, const char *label, const uint8_t *record, unsigned verdict) {
     unsigned count = 0;
-    for (uint32_t n = THALINGUZE_FITS; n <= THALINGUZE_VOUNITS; n++)
-        if (thalinguze_read(n, label, size, &unread, 0) == THALINGUZE_ACCEPTED)
-            accepting[count++] = n;
-    for (unsigned i = 0; i < count; i++)
-        printf("%s%s", i == 0 ? "" : i + 1 < count ? ", " : " and ", notation_words[accepting[i]].name);
-    if (count)
-        printf(" accept%s the label as it stands: is %s the right notation?\n", count == 1 ? "s" : "", notation_words[notation].name);
-}
-
-static void print_examples(uint32_t notation)
-{
-    printf("Labels of %s look like these:\n", notation_words[notation].name);
-    for (const char *const *example = example_labels[notation]; *example; example++)
-        printf("%s\n", *example);
-}
-
-void report_refusal(uint32_t notation, const uint8_t *label, size_t size, uint32_t number)
-{
-    struct advice a;
-    print_condition(notation, size, number);
-    advise(&a, notation, label, size, number);
-    for (unsigned i = 0; i < a.reasons; i++)
-        printf("%s\n", a.reason[i]);
-    for (unsigned i = 0; i < a.suggestions; i++)
-        if (*a.suggestion[i].label)
-            printf("%s: %s\n", a.suggestion[i].when, a.suggestion[i].label);
-        else
-            printf("%s the empty label.\n", a.suggestion[i].when);
-    if (number == THALINGUZE_NOT_IN_GRAMMAR) {
-        print_other_notations(notation, label, size);
-        if (a.suggestions == 0)
-            print_examples(notation);
+    for (unsigned i = 0; i < thalinguze_count(record); i++) {
+        struct text spelling = spelling_of(label, record, i);
+        if (!thalinguze_field(ask(notation, spelling.s).record, verdict))
+            put(list, "%s%s", count++ ? ", " : "", spelling.s);
     }
+    return count;
+}
+
+static void print_first_sentence(uint32_t notation, const char *label, const uint8_t *record) {
+    struct text said = {0}, blamed = {0};
+    say_reading(&said, label, record);
+    unsigned unknown = list_blamed(&blamed, notation, label, record, THALINGUZE_FIELD_KNOWN);
+    if (unknown)
+        printf("Accepted, but %u unit%s unknown: %s.\nIt reads: %s.\n", unknown, unknown == 1 ? " is" : "s are", blamed.s, said.s);
+    else if (list_blamed(&blamed, notation, label, record, THALINGUZE_FIELD_LAWFUL))
+        printf("Accepted, but with an unlawful prefix in %s: %s.\nIt reads: %s.\n", notation_words[notation].name, blamed.s, said.s);
+    else
+        printf("Accepted: %s.\n", said.s);
+}
+
+/* the terms above and below the fraction line, where there is something below it or everything is asked for */
+static void print_sides(const char *label, const uint8_t *record, bool in_full) {
+    struct text sides[2] = {{0}, {0}};
+    for (unsigned i = 0; i < thalinguze_count(record); i++) {
+        int64_t exponent = thalinguze_term_exponent(record, i);
+        struct text *side = &sides[exponent < 0];
+        put(side, "%s", side->length ? ", " : "");
+        say_term(side, label, record, i, exponent < 0 ? -exponent : exponent);
+    }
+    for (int s = 0; s < 2 && (sides[1].length || in_full); s++)
+        printf("%s the line: %s.\n", s ? "Below" : "Above", sides[s].length ? sides[s].s : "nothing");
+}
+
+/* the size, unless it is 1, and what goes without saying, if it is asked for */
+static void print_size(const uint8_t *record, bool in_full) {
+    static const char *const answers[] = {"no", "yes"};
+    struct text size = {0};
+    bool one = true;
+    int k = thalinguze_k(record), known = thalinguze_known(record);
+    for (unsigned p = 0; p < THALINGUZE_PRIMES; p++)
+        one &= thalinguze_scale(record, p) == 0;
+    say_size(&size, record);
+    if (in_full)
+        printf("Power of ten: %s%d.\nKnown: %s.\nLawful: %s.\nRecommended: %s.\n", k < 0 ? "minus " : "", k < 0 ? -k : k, answers[known],
+               answers[thalinguze_lawful(record)], answers[thalinguze_recommended(record)]);
+    if (in_full || (known && !one))
+        printf("Size: %s%s.\n", size.s, known ? "" : ", with unknown units left out");
+}
+
+static void print_suggestions(FILE *out, const struct advice *a) {
+    static const char *const claims[] = {[SAME] = "Write: ", [ASKED] = "Did you mean: ",
+        [NEXT] = "If only the unit or group straight after a slash is below the line, write: ",
+        [REST] = "If all that follows the slash is below the line, write: "};
+    for (unsigned i = 0; i < a->count; i++) {
+        const struct suggestion *s = &a->list[i];
+        struct text said = {0};
+        say_reading(&said, a->plain.s, ask(s->source, a->plain.s).record);
+        if (s->claim == ANOTHER)
+            fprintf(out, "As %s this is %s; in %s: %s\n", notation_words[s->source].name, said.s, notation_words[a->notation].name, s->label);
+        else
+            fprintf(out, "%s%s\n", *s->label ? claims[s->claim] : "Write the empty label.", s->label);
+    }
+}
+
+void report_reading(uint32_t notation, const char *label, const uint8_t *record, bool in_full) {
+    struct advice a;
+    struct text blamed = {0};
+    print_first_sentence(notation, label, record);
+    print_sides(label, record, in_full);
+    if (thalinguze_known(record) && list_blamed(&blamed, notation, label, record, THALINGUZE_FIELD_RECOMMENDED))
+        printf("Not recommended: %s.\n", blamed.s);
+    print_size(record, in_full);
+    advise(&a, notation, label, THALINGUZE_ACCEPTED);
+    print_suggestions(stdout, &a);
+}
+
+void report_refusal(FILE *out, uint32_t notation, const char *label, uint32_t number) {
+    static const char *const conditions[] = { /* those that end in a space go on with the notation's name */
+        [THALINGUZE_TOO_LONG] = "the label has more than 255 bytes",
+        [THALINGUZE_BYTE_OUT_OF_RANGE] = "the label has signs that are not plain ASCII",
+        [THALINGUZE_NOT_IN_GRAMMAR] = "the label does not follow the rules of ",
+        [THALINGUZE_NUMBER_OUT_OF_BOUNDS] = "a number is out of bounds.\nExponents and powers of ten go from minus 99 to 99, with 4 digits in a row "
+            "at most.\nAn exponent may have parts that divide 60: halves, thirds, quarters, fifths, sixths and so on",
+        [THALINGUZE_TOO_DEEP] = "more than 8 brackets are open at once.\nTake brackets away",
+        [THALINGUZE_TOO_MANY_TERMS] = "the label has more than 32 terms.\nWrite a unit that comes several times once, with an exponent",
+        [THALINGUZE_UNKNOWN_UNIT] = "a unit is unknown, and so is its size",
+        [THALINGUZE_DIMENSIONS_DIFFER] = "the dimensions differ",
+        [THALINGUZE_NO_FRACTION] = "the factor between the labels is a root, not a fraction",
+        [THALINGUZE_FACTOR_OUT_OF_BOUNDS] = "the factor has more than 53 bits above or below its line, or a power of ten beyond 9999",
+        [THALINGUZE_NO_FORM] = "the label has no form in ",
+        [THALINGUZE_RESULT_TOO_LONG] = "the label would have more than 255 bytes in ",
+    };
+    const struct notation_word *w = &notation_words[notation];
+    struct advice a;
+    bool named = conditions[number][strlen(conditions[number]) - 1] == ' ';
+    fprintf(out, "Refused, number %u: %s%s.\n", (unsigned)number, conditions[number], named ? w->name : "");
+    advise(&a, notation, label, number);
+    fputs(a.reasons.s, out);
+    print_suggestions(out, &a);
+    if (number == THALINGUZE_NOT_IN_GRAMMAR && a.count == 0)
+        fprintf(out, "Labels of %s look like these: %s; %s; %s\n", w->name, w->examples[0], w->examples[1], w->examples[2]);
 }

@@ -1,109 +1,109 @@
-/* The command thalinguze: says what a unit label means in a notation. */
-#include <stdio.h>
-#include <string.h>
-#include "report.h"
-#include "vectors.h"
-#include "words.h"
-
-enum { REFUSED = 1, WRONG_USAGE = 2 };
+/* The command thalinguze: its arguments, its help and its exit status. */
+#include <strings.h>
+#include "command.h"
 
 static const char help[] =
-    "usage: thalinguze read NOTATION LABEL\n"
-    "       thalinguze read --vectors\n"
-    "       thalinguze --help\n"
-    "\n"
-    "thalinguze read says what a unit label means in one notation: its terms with prefix, unit and exponent, the power of ten in\n"
-    "front, whether it is known, lawful and recommended, its dimensions and its scale. A refusal has a number, a reason, and where\n"
-    "there is one a label to write instead.\n"
-    "\n"
-    "Known: the notation knows every unit. Lawful: every prefix stands on a unit that takes one. Recommended: every unit is known, and\n"
-    "none is angstrom, erg, gauss or barn. A term is above the line if its exponent is positive, below if it is negative.\n"
-    "\n"
-    "NOTATION is fits, ogip, cds or vou (vounits is the same). LABEL is one argument: put quotes round it.\n"
-    "\n"
-    "Examples:\n"
+    "usage: thalinguze read NOTATION LABEL           what a unit label means\n"
+    "       thalinguze rewrite FROM LABEL TO         the label in another notation\n"
+    "       thalinguze convert FROM LABEL TO LABEL   the factor between two labels\n"
+    "       thalinguze list NOTATION                 the units that a notation knows\n"
+    "       thalinguze read --vectors, convert --vectors   both for programs\n"
+    "       thalinguze --version, --help\n"
+    "A notation is fits, ogip, cds or vou (vounits is the same), in small or capital\n"
+    "letters. read also takes all, for every notation. A label is one argument: put\n"
+    "quotes round it. With --long, read and convert leave nothing out.\n"
     "  thalinguze read cds 'kg/m.s'\n"
-    "  thalinguze read fits 'erg/(s cm2)'\n"
-    "  thalinguze read ogip '10**3 count s**(-1)'\n"
-    "  thalinguze read vou \"'furlong'\"\n"
-    "  thalinguze read cds ''\n"
-    "\n"
-    "thalinguze read --vectors reads lines from standard input. A line has a notation number, one space, and the label's bytes in\n"
-    "hexadecimal, or - for the empty label. Any decimal number is taken; one that is not 1 (FITS), 2 (OGIP), 3 (CDS) or 4 (VOUnits)\n"
-    "is refused with number 1. Each line is printed with its reading behind it: refusal number, k= power of ten, the verdicts known,\n"
-    "lawful, recommended (y or n), place=0, [terms], {dimensions}, and the exponents of 2, 3, 5 and 487 in the scale. A malformed line\n"
-    "is named on standard error and left out; the lines after it are read.\n"
-    "  printf '3 6b672f6d2e73\\n' | thalinguze read --vectors\n"
-    "\n"
-    "Exit status: 0 accepted (with --vectors: every line was read), 1 refused, 2 wrong usage, a malformed line, or a failure to read\n"
-    "or write.\n";
+    "  thalinguze rewrite cds '10+3pix/h' ogip\n"
+    "  thalinguze convert cds km/h fits m/s\n"
+    "A term is above the line if its exponent is positive, below if it is negative.\n"
+    "A unit is known if the notation has it. A prefix is lawful on a unit that takes\n"
+    "prefixes. Angstrom, erg, gauss and barn are known, but not recommended. What is\n"
+    "suggested for a refused label is accepted, and its units are known.\n"
+    "read answers on standard output, also where it refuses. rewrite prints the new\n"
+    "label alone, and convert the factor; their refusals are on standard error.\n"
+    "Exit status: 0 accepted (read all: in one notation at least), 1 refused, 2 a\n"
+    "wrong call, a malformed line, or a failure to read or write.\n"
+    "--vectors reads lines from standard input: a notation number (1 FITS, 2 OGIP,\n"
+    "3 CDS, 4 VOUnits), a space and the label's bytes in hexadecimal, or - for the\n"
+    "empty label; for convert, a space and the same again. It prints each line with\n"
+    "its answer, in the formats of vectors/README.md, and names malformed lines on\n"
+    "standard error.\n";
 
-static int wrong_usage(const char *what)
-{
+static int wrong_call(const char *what) {
     fprintf(stderr, "thalinguze: %s\nFor help: thalinguze --help\n", what);
-    return WRONG_USAGE;
+    return WRONG_CALL;
 }
 
 /* the number of a notation's name; 0 for any other text */
-static uint32_t notation_of(const char *name)
-{
-    for (uint32_t n = THALINGUZE_FITS; n <= THALINGUZE_VOUNITS; n++)
-        if (strcmp(name, notation_words[n].argument) == 0)
+static uint32_t notation_of(const char *name) {
+    for (uint32_t n = 1; n <= NOTATIONS; n++)
+        if (strcasecmp(name, notation_words[n].argument) == 0 || strcasecmp(name, notation_words[n].name) == 0)
             return n;
-    return strcmp(name, "vounits") == 0 ? THALINGUZE_VOUNITS : 0;
+    return 0;
 }
 
-static int read_label(const char *name, const char *text)
-{
-    uint8_t record[THALINGUZE_RECORD_SIZE];
-    const uint8_t *label = (const uint8_t *)text;
-    size_t size = strlen(text);
-    uint32_t notation = notation_of(name), number = thalinguze_read(notation, label, size, record, sizeof record);
-    print_label(label, size);
-    if (number == THALINGUZE_NO_SUCH_NOTATION) {
-        printf(" in ");
-        print_label((const uint8_t *)name, strlen(name));
-        printf("\nRefused, number 1: there is no notation of that name. The names are fits, ogip, cds and vou, in small letters.\n");
-        return REFUSED;
+/* reads a label in the notations from the first to the last; where they are several, it is said first which accept it */
+static int read_label(uint32_t first, uint32_t last, const char *label, bool in_full) {
+    int status = REFUSED;
+    struct text names[2] = {{0}, {0}};
+    for (uint32_t n = first; n <= last; n++)
+        put(&names[accepts(n, label)], ", %s", notation_words[n].name);
+    if (first < last)
+        printf("Accepted in %s. Refused in %s.\n\n", names[1].length ? names[1].s + 2 : "none", names[0].length ? names[0].s + 2 : "none");
+    for (uint32_t n = first; n <= last; n++) {
+        struct reading r = ask(n, label);
+        if (first < last)
+            printf("%sIn %s: ", n > first ? "\n" : "", notation_words[n].name);
+        if (r.number == THALINGUZE_ACCEPTED)
+            report_reading(n, label, r.record, in_full);
+        else
+            report_refusal(stdout, n, label, r.number);
+        status = r.number == THALINGUZE_ACCEPTED ? 0 : status;
     }
-    printf(" in %s\n", notation_words[notation].name);
-    if (number == THALINGUZE_ACCEPTED) {
-        report_reading(notation, label, record);
-        return 0;
-    }
-    report_refusal(notation, label, size, number);
-    return REFUSED;
+    return status;
 }
 
-static int run(int argc, char **argv)
-{
-    if (argc < 2)
-        return wrong_usage("say what to do");
-    if (strcmp(argv[1], "--help") == 0 || strcmp(argv[1], "-h") == 0 || strcmp(argv[1], "help") == 0) {
+/* a command with its words, without --long */
+static int run_command(int count, char **words, bool in_full) {
+    static const char *const names[] = {"read", "rewrite", "convert", "list"};
+    static const int counts[] = {3, 4, 5, 2};
+    int c = 0;
+    while (c < 4 && (count == 0 || strcmp(words[0], names[c]) != 0))
+        c++;
+    if (c == 4)
+        return wrong_call("the first word must be read, rewrite, convert or list");
+    if (count == 2 && strcmp(words[1], "--vectors") == 0 && (c == 0 || c == 2))
+        return print_vectors(c == 2);
+    if (count != counts[c])
+        return wrong_call("there are too few words or too many; put quotes round a label with spaces or brackets");
+    if (c == 0 && strcasecmp(words[1], "all") == 0)
+        return read_label(1, NOTATIONS, words[2], in_full);
+    uint32_t from = notation_of(words[1]), to = c == 1 || c == 2 ? notation_of(words[3]) : from;
+    if (from == 0 || to == 0)
+        return wrong_call("there is no such notation; the notations are fits, ogip, cds and vou");
+    return c == 0 ? read_label(from, from, words[2], in_full) : c == 1 ? rewrite_label(from, words[2], to)
+         : c == 2 ? convert_labels(from, words[2], to, words[4], in_full) : list_units(from);
+}
+
+int main(int argc, char **argv) {
+    char *words[6] = {0};
+    bool in_full = false, wants_help = false;
+    int count = 0, status = 0;
+    for (int i = 1; i < argc; i++) {
+        in_full |= strcmp(argv[i], "--long") == 0;
+        wants_help |= strcmp(argv[i], "--help") == 0 || strcmp(argv[i], "-h") == 0;
+        if (strcmp(argv[i], "--long") != 0 && count < 6)
+            words[count++] = argv[i];
+    }
+    if (wants_help)
         fputs(help, stdout);
-        return 0;
-    }
-    if (strcmp(argv[1], "read") != 0)
-        return wrong_usage("the first word must be read");
-    if (argc == 3 && (strcmp(argv[2], "--help") == 0 || strcmp(argv[2], "-h") == 0)) {
-        fputs(help, stdout);
-        return 0;
-    }
-    if (argc == 3 && strcmp(argv[2], "--vectors") == 0)
-        return print_vectors();
-    if (argc < 4)
-        return wrong_usage("read needs a notation and a label");
-    if (argc > 4)
-        return wrong_usage("read takes one notation and one label; put quotes round a label with spaces or brackets");
-    return read_label(argv[2], argv[3]);
-}
-
-int main(int argc, char **argv)
-{
-    int status = run(argc, argv);
+    else if (count == 1 && strcmp(words[0], "--version") == 0)
+        printf("thalinguze %s\n", THALINGUZE_VERSION_STRING);
+    else
+        status = run_command(count, words, in_full);
     if (fflush(stdout) != 0 || ferror(stdout)) {
         perror("thalinguze: standard output");
-        return WRONG_USAGE;
+        return WRONG_CALL;
     }
     return status;
 }

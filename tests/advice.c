@@ -1,85 +1,181 @@
-/* Walks what the command suggests for refused labels: each suggestion must be accepted in its notation, and an accepted label must
-   break no rule. */
-#include "../c/advice.h"
-#include "../c/meant.h"
-#include "../c/words.h"
+/* Walks what the command suggests, over the labels of tests/labels.txt, those of vectors/readings.tsv and random ones: each suggestion is
+   accepted, its units are known, and it says what it claims. What a refused text says is found here by another reader, on doubles. */
+#include <ctype.h>
+#include <math.h>
+#include "../c/command.h"
 #include "labels.h"
 
-static unsigned long tried, wrong, refused, advised;
+static unsigned long tried, wrong, refused, suggested[ANOTHER + 1];
 
-static void fail(const char *what, uint32_t notation, const char *label)
+static void fail(const char *what, uint32_t notation, const char *label, const char *suggestion)
 {
-    printf("%s: %s %s\n", what, notation_words[notation].name, label);
+    printf("%s: %s %s: %s\n", what, notation_words[notation].name, label, suggestion);
     if (++wrong > 20)
         exit(1);
 }
 
-static bool accepts(uint32_t notation, const char *label)
+/* WHAT A TEXT SAYS */
+
+struct said {
+    unsigned count;
+    double k;
+    struct {
+        char spelling[300];
+        double exponent;
+    } terms[300];
+};
+
+static const char *number_at(const char *at, double *value)
 {
-    uint8_t unread;
-    return thalinguze_read(notation, (const uint8_t *)label, strlen(label), &unread, 0) == THALINGUZE_ACCEPTED;
+    char *end;
+    if (!isdigit((unsigned char)at[*at == '-' || *at == '+']))
+        return NULL;
+    *value = strtod(at, &end);
+    return end;
 }
 
-/* FIXED LABELS */
-
-static void expect_accepted(uint32_t notation, const char *label)
+/* the exponent after a unit, or 1 */
+static const char *exponent_at(const char *at, double *exponent)
 {
-    tried++;
-    if (!accepts(notation, label))
-        fail("a label of the advice is refused", notation, label);
-}
-
-static void walk_fixed_labels(void)
-{
-    for (uint32_t n = 1; n <= 4; n++) {
-        for (size_t i = 0; example_labels[n][i]; i++)
-            expect_accepted(n, example_labels[n][i]);
-        for (size_t i = 0; i < foreign_sign_count; i++)
-            expect_accepted(n, foreign_signs[i].label[n]);
-        for (size_t i = 0; quoted_label(n, i); i++)
-            expect_accepted(n, quoted_label(n, i));
+    const char *start = at + (strncmp(at, "**", 2) == 0 ? 2 : *at == '^'), *end;
+    double divisor = 1;
+    *exponent = 1;
+    bool bracket = *start == '(';
+    if (!(end = number_at(start + bracket, exponent))) {
+        *exponent = 1;
+        return at;
     }
+    if (bracket && *end == '/' && !(end = number_at(end + 1, &divisor)))
+        return at;
+    *exponent /= divisor;
+    return end + bracket;
 }
 
-/* what people mean by a spelling is a known unit, and lawful */
-static void walk_meant_units(void)
+/* the terms up to a closing bracket or the end; a slash turns what comes straight after it, or all the rest */
+static const char *terms_at(const char *at, bool rest, double sign, struct said *s)
 {
-    uint8_t record[THALINGUZE_RECORD_SIZE];
-    for (size_t i = 0; i < meant_unit_count; i++)
-        for (uint32_t n = 1; n <= 4; n++) {
-            const char *label = meant_units[i].label[n];
-            if (!label)
-                continue;
-            expect_accepted(n, label);
-            if (thalinguze_read(n, (const uint8_t *)label, strlen(label), record, sizeof record) == 0 &&
-                !(thalinguze_known(record) && thalinguze_lawful(record) && thalinguze_count(record) == 1))
-                fail("not a known unit", n, label);
+    double now = sign;
+    for (; *at && *at != ')';) {
+        if (*at == '/') {
+            now = -sign;
+            at++;
+        } else if (*at == '(') {
+            at = terms_at(at + 1, rest, now, s);
+            at += *at == ')';
+            now = rest ? now : sign;
+        } else if (isalpha((unsigned char)*at) || *at == '%') {
+            size_t length = *at == '%' ? 1 : 0;
+            while (isalpha((unsigned char)at[length]))
+                length++;
+            snprintf(s->terms[s->count].spelling, 300, "%.*s", (int)length, at);
+            at = exponent_at(at + length, &s->terms[s->count].exponent);
+            s->terms[s->count++].exponent *= now;
+            now = rest ? now : sign;
+        } else {
+            at++;
         }
+    }
+    return at;
 }
 
-/* LABELS THAT PEOPLE WRITE */
+static void read_said(const char *given, bool rest, struct said *s)
+{
+    static char closed[TEXT_ROOM];
+    double value = 1;
+    size_t length = 0;
+    const char *text = closed;
+    for (const char *at = given; *at; at++) { /* spaces that are no more than that: beside signs, and before an exponent */
+        const char *next = at + strspn(at, " ");
+        bool exponent = length && isalpha((unsigned char)closed[length - 1]) && (isdigit((unsigned char)*next) || *next == '-' || *next == '+');
+        if (*at != ' ' || (!exponent && !strchr("/*.^)", *next) && length && !strchr("/*.^(", closed[length - 1])))
+            closed[length++] = *at;
+    }
+    closed[length] = 0;
+    s->count = 0;
+    text += strspn(text, " '\"`");
+    const char *end = number_at(text, &value), *after = end;
+    if (end && strncmp(text, "10", 2) == 0 && !isdigit((unsigned char)text[2]) && text[2] != 'e' && text[2] != 'E') {
+        double power;
+        after = exponent_at(text + 2, &power);
+        value = after > text + 2 ? pow(10, power) : value;
+    }
+    s->k = end ? log10(value) : 0;
+    terms_at(end ? after : text, rest, 1, s);
+}
+
+/* whether a reading has these exponents and this power of ten, and these spellings if they are asked for */
+static bool says(const char *label, const uint8_t *record, const struct said *s, bool spellings)
+{
+    bool same = thalinguze_count(record) == s->count && fabs(s->k - thalinguze_k(record)) < 1e-9;
+    for (unsigned i = 0; same && i < s->count; i++)
+        same = fabs(thalinguze_term_exponent(record, i) / 60.0 - s->terms[i].exponent) < 1e-9
+            && (!spellings || strcmp(spelling_of(label, record, i).s, s->terms[i].spelling) == 0);
+    return same;
+}
+
+/* CLAIMS */
+
+static void check_suggestion(const struct advice *a, const char *label, const struct suggestion *s)
+{
+    static struct said next, rest;
+    struct reading r = ask(a->notation, s->label), other = ask(s->source, a->plain.s);
+    const uint8_t *here = r.record, *there = other.record;
+    bool good = r.number == THALINGUZE_ACCEPTED && thalinguze_known(here) && thalinguze_lawful(here);
+    if (!good)
+        fail("refused or unknown", a->notation, label, s->label);
+    suggested[s->claim]++;
+    read_said(a->plain.s, false, &next);
+    read_said(a->plain.s, true, &rest);
+    if (s->claim == SAME && *s->label)
+        good = says(s->label, here, &next, true) && says(s->label, here, &rest, true);
+    if (s->claim == ASKED)
+        good = says(s->label, here, &next, false) && says(s->label, here, &rest, false);
+    if (s->claim == NEXT || s->claim == REST)
+        good = says(s->label, here, s->claim == NEXT ? &next : &rest, true) && !says(s->label, here, s->claim == NEXT ? &rest : &next, true);
+    if (s->claim == ANOTHER)
+        good = s->source != a->notation && other.number == 0 && thalinguze_known(there) && same_terms(here, there, true);
+    if (!good)
+        fail("another meaning", a->notation, label, s->label);
+}
+
+static void walk(uint32_t notation, const char *label)
+{
+    static struct advice a;
+    struct reading r = ask(notation, label);
+    tried++;
+    advise(&a, notation, label, r.number);
+    if (r.number == THALINGUZE_ACCEPTED) {
+        for (unsigned i = 0; i < a.count; i++) {
+            struct reading meant = ask(notation, a.list[i].label);
+            if (meant.number || !thalinguze_known(meant.record) || !same_terms(r.record, meant.record, false) || a.list[i].claim != ASKED)
+                fail("another spelling", notation, label, a.list[i].label);
+        }
+        return;
+    }
+    refused++;
+    for (unsigned i = 0; i < a.count; i++)
+        check_suggestion(&a, label, &a.list[i]);
+    if (a.count && (strstr(label, "log(") || strstr(label, "sqrt(") || strchr(label, '[') || strstr(label, "\xc2\xb0" "C")))
+        fail("a label for a function", notation, label, a.list[0].label);
+}
+
+/* LABELS */
 
 static const struct {
     uint32_t notation;
     const char *label, *first, *second;
 } expected[] = {
-    {1, "kg/m.s", "kg s/m", "kg/(m s)"}, {2, "kg/m.s", "kg s/m", "kg/(m s)"}, {4, "kg/m.s", "kg.s/m", "kg/(m.s)"},
-    {1, "kg/m s", "kg s/m", "kg/(m s)"}, {1, "kg/m*s", "kg s/m", "kg/(m s)"}, {4, "kg/m/s", "kg/(m.s)", 0},
-    {3, "---", "", 0}, {1, "-", "", 0}, {2, " ", "", 0}, {3, "0.1nm", "10-1nm", 0}, {3, "[K]", "K", 0}, {3, "20%", "%", 0},
-    {1, "Jy / beam", "Jy/beam", 0}, {1, "W /m**2", "W/m2", 0}, {1, "DN/s/pixel", "DN/(s pixel)", 0},
-    {2, "(m s)**(0.5)", "m**(1/2) s**(1/2)", 0}, {2, "sqrt(Hz)", "Hz**(1/2)", 0}, {1, "sqrt(Hz)", "Hz(1/2)", 0}, {4, "sqrt(Hz)", "Hz**(1/2)", 0},
-    {3, "sqrt(Hz)", 0, 0}, {4, "log(Hz)", "Hz", 0}, {2, " /m", "/m", 0}, {1, "m02", "m2", 0}, {2, "m**02", "m**2", 0}, {1, "Hz(0.5)", "Hz(1/2)", 0},
-    {4, "Hz**(0.5)", "Hz**(1/2)", 0}, {4, "m**(1/-2)", "m**(-1/2)", 0}, {1, "kg  m", "kg m", 0}, {1, "erg/s/cm2/Angstrom", "erg/(s cm2 Angstrom)", 0},
-    {1, "10**3  m", "10**3 m", 0}, {1, "10(3)m", "10**3 m", 0}, {1, "10(+3) m", "10**3 m", 0}, {1, "kg * m", "kg m", 0},
-    {1, "W/(m2/s)", "W s/m2", 0}, {1, "(m/s) kg", "m kg/s", 0}, {1, "10+3/m", "10**3 m-1", 0}, {1, "10+3 /m", "10**3 m-1", 0},
-    {1, "m1.5", "m(3/2)", 0}, {1, "m^3/2", "m(3/2)", 0}, {1, "10 m", "10**1 m", 0}, {1, "100 m", "10**2 m", 0}, {1, "1/s", "/s", 0},
-    {2, "m**1.5", "m**(3/2)", 0}, {2, "m**(1 / 2)", "m**(1/2)", 0}, {2, "10.0 m", "10**1 m", 0}, {2, "0.1 m", "10**-1 m", 0},
-    {2, "( m)", "m", 0}, {2, "m.s", "m s", 0}, {2, "m^2", "m**2", 0}, {2, "m2", "m**2", 0}, {2, "m**3/2", "m**(3/2)", 0},
-    {3, "10.0m", "10+1m", 0}, {3, "km / s", "km/s", 0}, {3, "km s-1", "km.s-1", 0}, {3, "m**2", "m2", 0}, {3, "m(2)", "m2", 0},
-    {3, "10**(3)m", "10+3m", 0}, {4, "/m", "m**-1", 0}, {4, "1/m", "m**-1", 0}, {4, "1e3m", "10**3m", 0}, {4, "10+8m", "10**8m", 0},
-    {4, "m.s-2", "m.s**-2", 0}, {4, "m s", "m.s", 0}, {4, "m*s", "m.s", 0}, {4, "m^2", "m**2", 0}, {4, "10**3 m", "10**3m", 0},
-    {4, "10**3.m", "10**3m", 0}, {1, "(((((((((m)))))))))", "m", 0}, {3, "m1/2", 0, 0}, {1, "'m'", 0, 0}, {1, "%", 0, 0}, {4, "x'm'", 0, 0},
-    {1, "m0", 0, 0}, {1, "10+21", 0, 0}, {1, "m(1/7", 0, 0}, {2, "?", 0, 0}, {1, "(m s)2", "m2 s2", 0}, {2, "m**-2.s", "m**(-2) s", 0},
+    {1, "kg/m.s", "kg m-1 s", "kg/(m.s)"}, {2, "kg/m.s", "kg m**(-1) s", "kg/(m s)"}, {4, "kg/m.s", "kg.m**-1.s", "kg/(m.s)"},
+    {4, "kg/m/s", "kg/(m.s)", 0}, {3, "---", "", 0}, {3, "0.1nm", "10-1nm", 0}, {3, "[K]", 0, 0}, {3, "20%", 0, 0}, {1, "Jy / beam", "Jy/beam", 0},
+    {1, "W /m**2", "W/m**2", 0}, {1, "DN/s/pixel", 0, 0}, {2, "(m s)**(0.5)", 0, 0}, {2, "sqrt(Hz)", 0, 0}, {2, " /m", "/m", 0}, {1, "m02", 0, 0},
+    {1, "Hz(0.5)", "Hz(1/2)", 0}, {1, "Hz**(-0.5)", "Hz(-1/2)", 0}, {1, "kg  m", "kg m", 0}, {1, "10(3)m", "10**3 m", 0}, {1, "kg * m", "kg*m", 0},
+    {1, "(m/s) kg", "m s-1 kg", 0}, {1, "10+3/m", "10**3 m-1", 0}, {1, "m1.5", "m(3/2)", 0}, {1, "m^3/2", 0, 0}, {1, "1/s", "/s", 0},
+    {2, "m**(1 / 2)", "m**(1/2)", 0}, {2, "( m)", "(m)", 0}, {2, "cm -2 s -1", "cm**(-2) s**(-1)", 0}, {3, "km s-1", "km.s-1", 0},
+    {4, "/m", "m**-1", 0}, {4, "1e3m", "10**3m", 0}, {4, "10**3 m", "10**3m", 0}, {1, "'m'", 0, 0}, {1, "'km/s'", "km/s", 0}, {3, "m1/2", 0, 0},
+    {2, "ph.cm-2.s-1", "photon cm**(-2) s**(-1)", 0}, {2, "log10(count/s)", 0, 0}, {1, "m/s\xc2\xb2", "m/s2", 0}, {3, "m/s\xc2\xb2", "m/s2", 0},
+    {1, "\xc2\xb0" "C", 0, 0}, {1, "10\xc2\xb3 m", "10**3 m", 0}, {2, "\xc3\x85", "angstrom", 0}, {3, "\xc3\x85", 0, 0}, {1, "counts/s/pixel", "count/(s pixel)", 0},
+    {1, "KM/S", "km/s", 0}, {1, "counts", "count", 0}, {1, "sec", "s", 0}, {1, "DN", 0, 0}, {2, "KM/S/MPC", "km/s/Mpc", "km/s/mpc"}, {2, "ph", "photon", 0},
+    {3, "m.pixel", "m.pix", 0}, {1, "m", 0, 0}, {1, "(kg/m s)", "kg m-1 s", "kg m-1 s-1"}, {1, "%", 0, 0}, {1, "((((((((kg/m.s))))))))", "kg m-1 s", 0}, {2, "10^10003 m", 0, 0}, {1, "ma1(1/2)", 0, 0}, {1, "m1**+9", 0, 0}, {1, " 10*k1m", 0, 0}, {3, "100**1%", 0, 0}, {2, "1e10000 m", 0, 0}, {2, "10^99 m", "10**99 m", 0}, {1, "\xff", 0, 0},
 };
 
 static bool same(const char *a, const char *b)
@@ -90,99 +186,69 @@ static bool same(const char *a, const char *b)
 static void walk_expected(void)
 {
     for (size_t i = 0; i < sizeof expected / sizeof expected[0]; i++) {
-        struct advice a;
-        uint8_t unread;
-        const uint8_t *label = (const uint8_t *)expected[i].label;
-        size_t size = strlen(expected[i].label);
-        uint32_t number = thalinguze_read(expected[i].notation, label, size, &unread, 0);
-        tried++;
-        if (number != THALINGUZE_NOT_IN_GRAMMAR && number != THALINGUZE_TOO_DEEP)
-            fail("not refused", expected[i].notation, expected[i].label);
-        advise(&a, expected[i].notation, label, size, number);
-        const char *first = a.suggestions > 0 ? a.suggestion[0].label : NULL, *second = a.suggestions > 1 ? a.suggestion[1].label : NULL;
-        if (!same(first, expected[i].first) || !same(second, expected[i].second)) {
-            fail("another suggestion", expected[i].notation, expected[i].label);
-            printf("  %s, %s\n", first ? first : "none", second ? second : "none");
+        static struct advice a;
+        uint32_t n = expected[i].notation;
+        advise(&a, n, expected[i].label, ask(n, expected[i].label).number);
+        walk(n, expected[i].label);
+        if (!same(a.count ? a.list[0].label : NULL, expected[i].first) || (expected[i].second && !same(a.list[1].label, expected[i].second)))
+            fail("another suggestion", n, expected[i].label, a.count ? a.list[0].label : "none");
+    }
+}
+
+/* the labels in the tables of words, and that no spelling is known in two notations as two units */
+static void walk_words(void)
+{
+    for (uint32_t n = 1; n <= NOTATIONS; n++)
+        for (unsigned i = 0; i < 3; i++)
+            if (!is_sound(n, notation_words[n].examples[i]))
+                fail("an example", n, notation_words[n].examples[i], "");
+    for (unsigned i = 0; i < COUNT(spelling_words); i++)
+        if (!is_sound(THALINGUZE_FITS, spelling_words[i][1]) && !is_sound(THALINGUZE_OGIP, spelling_words[i][1]))
+            fail("a usual spelling", 1, spelling_words[i][0], spelling_words[i][1]);
+    for (int p = 0; p <= PREFIXES; p++)
+        for (int u = 1; u <= THALINGUZE_UNITS * 2; u++) {
+            const char *const *w = unit_words[(u + 1) / 2];
+            struct text t = {0};
+            put(&t, "%s%s", prefix_words[p].symbol, u % 2 || !w[OTHER] ? w[SYMBOL] : w[OTHER]);
+            for (uint32_t n = 1; n <= NOTATIONS; n++)
+                for (uint32_t m = 1; m < n; m++)
+                    if (is_sound(n, t.s) && is_sound(m, t.s) && !same_terms(ask(n, t.s).record, ask(m, t.s).record, true))
+                        fail("two units", n, t.s, notation_words[m].name);
         }
-        if (number == THALINGUZE_NOT_IN_GRAMMAR && a.reasons == 0)
-            fail("no reason", expected[i].notation, expected[i].label);
-    }
 }
 
-/* ANY LABEL */
-
-/* two readings with the same terms but for their places */
-static bool same_terms(const uint8_t *a, const uint8_t *b)
+static void walk_file(const char *name)
 {
-    if (thalinguze_k(a) != thalinguze_k(b) || thalinguze_count(a) != thalinguze_count(b))
-        return false;
-    return memcmp(a + 8 * THALINGUZE_FIELD_DIMENSIONS, b + 8 * THALINGUZE_FIELD_DIMENSIONS, 8 * (THALINGUZE_BASES + THALINGUZE_PRIMES)) == 0;
-}
-
-/* the advice on an accepted label: no rule is broken, and the first suggestion means the same */
-static void walk_accepted(uint32_t notation, const uint8_t *label, size_t size, const uint8_t *record)
-{
-    struct advice a;
-    uint8_t other[THALINGUZE_RECORD_SIZE];
-    char shown[LABEL_ROOM + 1];
-    snprintf(shown, sizeof shown, "%.*s", (int)size, (const char *)label);
-    advise(&a, notation, label, size, THALINGUZE_NOT_IN_GRAMMAR);
-    if (size && a.reasons)
-        fail(a.reason[0], notation, shown);
-    if (size == 0)
-        return;
-    if (a.suggestions == 0) {
-        fail("not followed", notation, shown);
-        return;
-    }
-    const char *text = a.suggestion[0].label;
-    if (thalinguze_read(notation, (const uint8_t *)text, strlen(text), other, sizeof other) != 0 || !same_terms(record, other))
-        fail("the loose reading differs", notation, shown);
-}
-
-static void walk(uint32_t notation, const uint8_t *given, size_t size)
-{
-    uint8_t record[THALINGUZE_RECORD_SIZE];
-    uint8_t *label = malloc(size ? size : 1); /* of its very size, for the sanitizers */
-    if (!label)
+    char line[1024];
+    FILE *f = fopen(name, "r");
+    if (!f)
         exit(2);
-    memcpy(label, given, size);
-    uint32_t number = thalinguze_read(notation, label, size, record, sizeof record);
-    tried++;
-    if (number == THALINGUZE_ACCEPTED) {
-        walk_accepted(notation, label, size, record);
-    } else if (number >= THALINGUZE_BYTE_OUT_OF_RANGE) {
-        struct advice a;
-        advise(&a, notation, label, size, number);
-        refused++;
-        advised += a.suggestions > 0;
-        if (a.reasons == 0 && number != THALINGUZE_TOO_DEEP) {
-            char shown[LABEL_ROOM + 1];
-            snprintf(shown, sizeof shown, "%.*s", (int)size, (const char *)label);
-            fail("no reason", notation, shown);
-        }
-        for (unsigned i = 0; i < a.suggestions; i++)
-            if (!accepts(notation, a.suggestion[i].label))
-                fail("a suggestion is refused", notation, a.suggestion[i].label);
+    while (fgets(line, sizeof line, f)) {
+        char *tab = strchr(line, '\t');
+        line[strcspn(line, "\n")] = 0;
+        *tab = 0;
+        for (uint32_t n = 1; n <= NOTATIONS; n++)
+            walk(n, tab + 1);
     }
-    free(label);
+    fclose(f);
 }
 
 int main(void)
 {
-    static uint8_t label[LABEL_ROOM];
-    read_vectors("vectors/readings.tsv");
-    walk_fixed_labels();
-    walk_meant_units();
+    static uint8_t label[LABEL_ROOM + 1];
+    walk_words();
     walk_expected();
-    for (unsigned i = 0; i < vector_count; i++)
-        for (uint32_t n = 1; n <= 4; n++)
-            walk(n, vectors[i].label, vectors[i].size);
-    for (unsigned long i = 0; i < 50000; i++) {
-        size_t size = random_label(label, 1 + below(4));
-        for (uint32_t n = 1; n <= 4; n++)
-            walk(n, label, size);
+    walk_file("tests/labels.txt");
+    read_vectors("vectors/readings.tsv");
+    for (unsigned i = 0; i < vector_count + 5000; i++) {
+        size_t size = i < vector_count ? vectors[i].size : random_label(label, 1 + below(NOTATIONS));
+        if (i < vector_count)
+            memcpy(label, vectors[i].label, size);
+        label[size] = 0;
+        for (uint32_t n = 1; n <= NOTATIONS; n++)
+            walk(n, (const char *)label);
     }
-    printf("%lu labels under the advice (seed %lu): of %lu refused %lu have a suggestion, %lu wrong\n", tried, SEED, refused, advised, wrong);
-    return wrong != 0 || advised == 0;
+    printf("%lu labels under the advice (seed %lu), %lu refused: suggestions %lu of other forms, %lu and %lu for slashes, %lu asked, %lu from other "
+           "notations; %lu wrong\n", tried, SEED, refused, suggested[SAME], suggested[NEXT], suggested[REST], suggested[ASKED], suggested[ANOTHER], wrong);
+    return wrong != 0 || suggested[SAME] == 0 || suggested[NEXT] == 0 || suggested[ASKED] == 0 || suggested[ANOTHER] == 0;
 }

@@ -103,9 +103,11 @@ static void check_name(uint64_t key, unsigned code)
         return;
     check(strlen(c->symbol) == code >> 16, "the length of a name", c->symbol);
     check(c->code == row + 1, "unit constant", c->name);
-    const struct constant *shown = row >= 0 && row < THALINGUZE_UNITS ? find(units, UNIT_NAMES, key_of(unit_words[row + 1].symbol)) : NULL;
+    const char *const *words = unit_words[row >= 0 && row < THALINGUZE_UNITS ? row + 1 : 0];
+    const struct constant *shown = find(units, UNIT_NAMES, key_of(words[SYMBOL]));
     check(shown && shown->code == row + 1 && strcmp(shown->name, c->name) == 0, "symbol of the command", c->name);
-    check(shown && same_word(c->name, unit_words[row + 1].word), "word of the command", c->name);
+    check(strcmp(c->symbol, words[SYMBOL]) == 0 || (words[OTHER] && strcmp(c->symbol, words[OTHER]) == 0), "name of the command", c->symbol);
+    check(same_word(c->name, words[WORD]), "word of the command", c->name);
     for (uint32_t n = 1; n <= 4; n++) {
         uint32_t number = read_text(n, c->symbol, record);
         bool known = number == 0 && thalinguze_count(record) == 1 && thalinguze_term_prefix(record, 0) == THALINGUZE_PREFIX_NONE &&
@@ -166,7 +168,7 @@ static void check_bases(void)
         check(c->code == b && read_text(THALINGUZE_FITS, c->symbol, record) == 0, "base constant", c->name);
         for (int other = 0; other < 32; other++)
             check(thalinguze_dimension(record, (unsigned)other) == (other == c->code ? 60 : 0), "the library's dimensions", c->name);
-        check(strcmp(base_words[b].symbol, c->symbol) == 0 && same_word(c->name, base_words[b].word), "base of the command", c->name);
+        check(strcmp(base_symbols[b], c->symbol) == 0, "base of the command", c->name);
     }
 }
 

@@ -19,6 +19,7 @@ compare() {
 compare read build/thalinguze read --vectors
 compare rewrite build/tests/rewrite
 compare convert build/tests/convert
+compare convert build/thalinguze convert --vectors
 for kind in lines lines-ended lines-none; do compare "$kind" build/label-lines; done
 cut -d' ' -f1-4 vectors/converts.tsv | build/tests/convert | cmp - vectors/converts.tsv || { echo 'the library differs from vectors/converts.tsv'; exit 1; }
 echo "$(wc -l <vectors/converts.tsv) conversions are those of vectors/converts.tsv"

@@ -6,11 +6,8 @@ mkdir -p "$out"
 fail() { echo "README.md: $1"; exit 1; }
 
 # the first answer, of make run
-awk '/^    /{ print substr($0, 5) } /^$/{ if (seen) print "" } /^    kg\/m.s in FITS/{ seen = 1 } /^Above, in CDS/{ exit }' README.md >"$out/printed"
-for notation in fits ogip cds vou; do
-    build/thalinguze read "$notation" kg/m.s || test $? = 1
-    echo
-done >"$out/said"
+awk '/^    Accepted in /{ seen = 1 } /^Above, in CDS/{ exit } seen { sub(/^    /, ""); print }' README.md | sed '$d' >"$out/printed"
+build/thalinguze read all kg/m.s >"$out/said"
 diff "$out/printed" "$out/said" || fail 'make run says something else'
 
 # the commands for an editor
@@ -34,8 +31,8 @@ rows=0
 while IFS='|' read -r _ notation above below _; do
     name=$(echo "$notation" | tr -d ' ' | sed 's/VOUnits/vou/' | tr 'A-Z' 'a-z')
     label() { echo "$1" | sed 's/^ *`//; s/` *$//'; }
-    build/thalinguze read "$name" "$(label "$above")" | grep -q ': second, above the line$' || fail "above in $notation"
-    build/thalinguze read "$name" "$(label "$below")" | grep -q ': second to the power -1, below the line$' || fail "below in $notation"
+    build/thalinguze read "$name" "$(label "$above")" | grep -qx 'Above the line: kilogram, second.' || fail "above in $notation"
+    build/thalinguze read "$name" "$(label "$below")" | grep -qx 'Below the line: metre, second.' || fail "below in $notation"
     rows=$((rows + 1))
 done <<EOF
 $(sed -n '/^| Notation | Seconds above/,/^$/p' README.md | sed '1,2d;/^$/d')

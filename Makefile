@@ -1,4 +1,4 @@
-# make: the library, the command and the line program, in build/. make run: what kg/m.s means in each notation, and four lines rewritten;
+# make: the library, the command and the line program, in build/. make run: what kg/m.s means in each notation, and four labels rewritten;
 # NOTATION=cds LABEL='km/h' for another label. make install PREFIX=/usr/local DESTDIR=: installs what is in build/, after building what is missing
 # there. make uninstall: removes what it installed.
 # make test: every program of tests/. make compare SEED=1: a million cases against the second implementation, tests/independent.py.
@@ -14,7 +14,7 @@ SANITIZERS = -g -fsanitize=address,undefined -fno-sanitize-recover=all
 LIBRARY = build/libthalinguze.a
 SHARED = build/libthalinguze.so
 HEADERS = include/thalinguze.h $(wildcard c/*.h)
-SOURCES = $(filter-out c/version.c,$(wildcard c/*.c))
+SOURCES = $(wildcard c/*.c)
 PARTS = $(patsubst c/%.c,build/%.o,$(SOURCES))
 TESTS = $(addprefix build/tests/,limits header advice stack guard guard-plain rewrite convert thalinguze)
 
@@ -34,6 +34,7 @@ all: $(BUILT)
 run: all
 	@build/thalinguze read $(NOTATION) "$$LABEL" || test $$? = 1
 ifeq ($(origin LABEL)-$(origin NOTATION),file-file)
+	@echo
 	@echo 'Lines, each with an id, a notation, a label and the notation to write it in:'
 	@head -n 4 vectors/lines.in
 	@echo
@@ -121,7 +122,10 @@ $(LIBRARY): build/libface.a build/version.o
 $(SHARED): $(LIBRARY)
 	$(CC) -shared -nostartfiles -Wl,-soname,$(SONAME) -Wl,-z,defs,-z,now,-z,relro -o $@ -Wl,--whole-archive $< -Wl,--no-whole-archive
 
-build/version.o: CFLAGS += -fPIC
+build/version.o: lib/version.c include/thalinguze.h
+	$(call needs,$(CC))
+	@mkdir -p build
+	$(CC) $(CFLAGS) -fPIC -c -o $@ $<
 
 # A page of the manual has the version, and the C example in place of its line @EXAMPLE@.
 build/man/%: man/% build/labels.roff include/thalinguze.h

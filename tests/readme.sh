@@ -1,30 +1,36 @@
 #!/bin/sh
-# What README.md prints, against what its commands print.
+# What README.md prints, against what its commands print: in a console block a line that starts with a dollar sign is a command, and the lines below it
+# are what it prints. The lines of C are compiled and run, and the labels of its table read.
 set -eu
 out=build/tests/readme
+rm -rf "$out"
 mkdir -p "$out"
 fail() { echo "README.md: $1"; exit 1; }
 
-# the first answer, of make run
-awk '/^    Accepted in /{ seen = 1 } /^Above, in CDS/{ exit } seen { sub(/^    /, ""); print }' README.md | sed '$d' >"$out/printed"
-build/thalinguze read all kg/m.s >"$out/said"
-diff "$out/printed" "$out/said" || fail 'make run says something else'
+awk -v out="$out" '
+    /^```/ { inside = /^```console$/; next }
+    !inside { next }
+    /^\$ / { files++; print substr($0, 3) >(out "/command." files); printf "" >(out "/wanted." files); next }
+    { print >(out "/wanted." files) }
+    END { print files + 0 }' README.md >"$out/count"
+[ "$(cat "$out/count")" -gt 10 ] || fail 'it has few commands'
+for i in $(seq "$(cat "$out/count")"); do
+    status=0
+    sh "$out/command.$i" >"$out/said" 2>&1 || status=$?
+    refused=0
+    if head -n 1 "$out/wanted.$i" | grep -q '^Refused'; then refused=1; fi
+    [ "$status" = "$refused" ] || fail "status $status of $(cat "$out/command.$i")"
+    diff "$out/said" "$out/wanted.$i" || fail "another answer to $(cat "$out/command.$i")"
+done
 
-# the commands for an editor
-grep "^    build/thalinguze " README.md | sh -e >"$out/editor"
-[ -s "$out/editor" ] || fail 'it has no commands for an editor'
-
-# a command and, below it, what it prints
-shows() { # THE COMMAND'S FIRST WORDS, THE LINES BELOW IT
-    sed -n "/^    $1/{s/^    //p;q}" README.md >"$out/command"
-    sh -e "$out/command" >"$out/said"
-    [ -s "$out/said" ] || fail "nothing is printed by $1"
-    while read -r line; do grep -qxF "    $line" README.md || fail "it does not print: $line"; done <"$out/said"
-}
-shows "printf '3 "
-shows "printf 't1"
-sed -n '/^    gcc -I include/s/^    //p' README.md | sh -e
-shows 'build\/example$'
+# the lines of C
+{
+    printf '#include <stdio.h>\n#include <string.h>\n#include <thalinguze.h>\nint main(void)\n{\nconst char *label = "kg/m.s";\n'
+    awk '/^```/ { inside = /^```c$/; next } inside' README.md
+    printf 'return 0;\n}\n'
+} >"$out/lines.c"
+gcc -std=c11 -Wall -Wextra -Werror -Iinclude -o "$out/lines" "$out/lines.c" build/libthalinguze.a
+[ "$("$out/lines" | tail -n 1)" = 'unit 3, exponent 60 sixtieths, above the line' ] || fail 'its lines of C print something else'
 
 # the labels with the seconds above and below the line
 rows=0
@@ -34,8 +40,8 @@ while IFS='|' read -r _ notation above below _; do
     build/thalinguze read "$name" "$(label "$above")" | grep -qx 'Above the line: kilogram, second.' || fail "above in $notation"
     build/thalinguze read "$name" "$(label "$below")" | grep -qx 'Below the line: metre, second.' || fail "below in $notation"
     rows=$((rows + 1))
-done <<EOF
+done <<END
 $(sed -n '/^| Notation | Seconds above/,/^$/p' README.md | sed '1,2d;/^$/d')
-EOF
+END
 [ "$rows" = 4 ] || fail "it has $rows rows of labels"
-echo 'README.md prints what its commands print'
+echo "README.md prints what its $(cat "$out/count") commands print"

@@ -11,7 +11,7 @@ use lib.Dec.{T, eqb, leb, leb→le}
 use lib.ListN.{take, drop}
 use lib.Seq.{take-nil}
 use borrow.Author.Tests.{eqb-true, lt-leb, le-leb}
-use Rattle.label.specs.Bytes.{letter, digit, nonzero, all, run-on, run, past-on, past, same}
+use Rattle.label.specs.Bytes.{letter, digit, nonzero, all, run-on, run, past-on, past, same, close-bracket, point as point-byte, quote, slash as slash-byte, space as space-byte, star as star-byte}
 use Rattle.label.specs.Parse.{Found, none, found, then, mapped, byte, closed}
 use Rattle.label.specs.Choice.{pick}
 
@@ -96,14 +96,14 @@ byte-found c a b (d ∷ s) u h = go (eqb d c) refl h
 -- a value, then a closing bracket
 pub record Closed (A B : Type 0) (f : A → B) (x : Found A) (b : B) (u : List ℕ) : Type 0 where
   pub value : A
-  pub one : x ≡ found value (41 ∷ u)
+  pub one : x ≡ found value (close-bracket ∷ u)
   pub is : f value ≡ b
 
 pub closed-found : {A B : Type 0} (f : A → B) (x : Found A) (b : B) (u : List ℕ) → closed f x ≡ found b u → Closed A B f x b u
 unfolding closed
 closed-found f x b u h =
-    let w = then-found x (λ a s. byte 41 (f a) s) b u h in
-    let v = byte-found 41 (f (w .value)) b (w .mid) u (w .two) in
+    let w = then-found x (λ a s. byte close-bracket (f a) s) b u h in
+    let v = byte-found close-bracket (f (w .value)) b (w .mid) u (w .two) in
     record { value = w .value; one = w .one ∙ ap (λ (l : List ℕ). found (w .value) l) (v .1); is = v .0 }
 
 -- CLASSES
@@ -214,18 +214,18 @@ drop-take (suc k) (suc m) (c ∷ l) = rw (suc-sub-suc m k) (drop-take k m l)
 -- the text does not begin with a star
 pub data NoStar : List ℕ → Type 0 where
   end : NoStar []
-  other : {c : ℕ} {s : List ℕ} → eqb c 42 ≡ false → NoStar (c ∷ s)
+  other : {c : ℕ} {s : List ℕ} → eqb c star-byte ≡ false → NoStar (c ∷ s)
 
 -- the end, a space, a closing bracket, a star that is not two, a point, a slash
 pub data Ends : List ℕ → Type 0 where
   end : Ends []
-  space : {s : List ℕ} → Ends (32 ∷ s)
-  close : {s : List ℕ} → Ends (41 ∷ s)
-  star : {s : List ℕ} → NoStar s → Ends (42 ∷ s)
-  point : {s : List ℕ} → Ends (46 ∷ s)
-  slash : {s : List ℕ} → Ends (47 ∷ s)
+  space : {s : List ℕ} → Ends (space-byte ∷ s)
+  close : {s : List ℕ} → Ends (close-bracket ∷ s)
+  star : {s : List ℕ} → NoStar s → Ends (star-byte ∷ s)
+  point : {s : List ℕ} → Ends (point-byte ∷ s)
+  slash : {s : List ℕ} → Ends (slash-byte ∷ s)
 
 -- the text goes on with no letter and no quote
 pub data Unlettered : List ℕ → Type 0 where
   end : Unlettered []
-  other : {c : ℕ} {s : List ℕ} → letter c ≡ false → eqb c 39 ≡ false → Unlettered (c ∷ s)
+  other : {c : ℕ} {s : List ℕ} → letter c ≡ false → eqb c quote ≡ false → Unlettered (c ∷ s)

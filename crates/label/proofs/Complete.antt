@@ -6,7 +6,7 @@ use mathlib.Core.Bool.{Bool, false, not}
 use mathlib.Core.List.{List, [], _∷_, _++_, append-assoc}
 use lib.ListN.{length, length-append}
 use Rattle.label.specs.declared.Rules.{Rules}
-use Rattle.label.specs.Bytes.{letter}
+use Rattle.label.specs.Bytes.{letter, close-bracket, open-bracket, quote, slash}
 use Rattle.label.specs.Lexical.{Written, Part, part, turned-all, Kind, item, more, product, quotient, Letters, letters, quoted, prefixed}
 use Rattle.label.specs.Parse.{Found, found, then, mapped, byte, closed, unit, stop, times, over, joint, appended, chained, item-at, item-by, more-at, product-at, quotient-on, inside, read}
 use Rattle.label.proofs.Basics.{differs, Ends}
@@ -25,7 +25,7 @@ spelling-begins (SpellingBy.letters d) u = letters-spell d u
 spelling-begins (SpellingBy.percent f) u = Spells.by-percent
 spelling-begins (SpellingBy.quoted f (quoted d)) u = Spells.by-quote
 spelling-begins (SpellingBy.quoted f (prefixed {p = p} {l = l} d e)) u =
-    rw (append-assoc (p ++ 39 ∷ l) (39 ∷ []) u, append-assoc p (39 ∷ l) (39 ∷ u)) (letters-spell (prefix-letters d) (39 ∷ l ++ 39 ∷ u))
+    rw (append-assoc (p ++ quote ∷ l) (quote ∷ []) u, append-assoc p (quote ∷ l) (quote ∷ u)) (letters-spell (prefix-letters d) (quote ∷ l ++ quote ∷ u))
 
 pub item-begins : {r : Rules} {s t : List ℕ} {ps : List Part} → G r item s t ps → Begins s
 item-begins (G.unit {l = l} {e = e} {t = t} d x) = Begins.by-spelling (spelling-begins d (e ++ t))
@@ -36,7 +36,7 @@ item-begins (G.group d) = Begins.by-bracket
 -- the end, or a closing bracket
 pub data Closes : List ℕ → Type 0 where
   end : Closes []
-  close : {s : List ℕ} → Closes (41 ∷ s)
+  close : {s : List ℕ} → Closes (close-bracket ∷ s)
 
 closes-ends : {s : List ℕ} → Closes s → Ends s
 closes-ends Closes.end = Ends.end
@@ -53,7 +53,7 @@ Follows r more s = Ends s × (joint r s ≡ stop)
 Follows r product s = Ends s × (joint r s ≡ stop)
 Follows r quotient s = Closes s
 
-close-follows : (r : Rules) (x : Kind) (s : List ℕ) → Follows r x (41 ∷ s)
+close-follows : (r : Rules) (x : Kind) (s : List ℕ) → Follows r x (close-bracket ∷ s)
 close-follows r item s = Ends.close
 close-follows r more s = (Ends.close, close-stops r s)
 close-follows r product s = (Ends.close, close-stops r s)
@@ -76,7 +76,7 @@ spelling-long : {r : Rules} {l : List ℕ} → SpellingBy r l → 1 ≤ length l
 spelling-long (SpellingBy.letters (letters t a)) = omega arith
 spelling-long (SpellingBy.percent f) = omega arith
 spelling-long (SpellingBy.quoted f (quoted d)) = omega arith
-spelling-long (SpellingBy.quoted f (prefixed {p = p} {l = l} d e)) = omega (arith, length-append (p ++ 39 ∷ l) (39 ∷ []))
+spelling-long (SpellingBy.quoted f (prefixed {p = p} {l = l} d e)) = omega (arith, length-append (p ++ quote ∷ l) (quote ∷ []))
 
 pub shorter : {r : Rules} {x : Kind} {s t : List ℕ} {ps : List Part} → G r x s t ps → length t + least x ≤ length s
 shorter (G.unit {l = l} {e = e} {t = t} d x) = omega (arith, spelling-long d, length-append l (e ++ t), length-append e t)
@@ -101,12 +101,12 @@ unit-complete r b {l} {e} {w} d x t h =
 -- a text that begins with a unit's spelling is read as a unit
 item-unit : (r : Rules) (b : Bool) (f : List ℕ → Found (List Part)) {s : List ℕ} → Spells s → item-by r b f s ≡ unit r b s
 unfolding item-by item-at letter
-item-unit r b f (Spells.by-letter {c = c} t) = rw (differs letter c 40 t refl)
+item-unit r b f (Spells.by-letter {c = c} t) = rw (differs letter c open-bracket t refl)
 item-unit r b f Spells.by-percent = refl
 item-unit r b f Spells.by-quote = refl
 
 -- a group
-group-complete : (r : Rules) (b : Bool) (f : List ℕ → Found (List Part)) (s t : List ℕ) (ps : List Part) → f s ≡ found ps (41 ∷ t) → item-by r b f (40 ∷ s) ≡ found ps t
+group-complete : (r : Rules) (b : Bool) (f : List ℕ → Found (List Part)) (s t : List ℕ) (ps : List Part) → f s ≡ found ps (close-bracket ∷ t) → item-by r b f (open-bracket ∷ s) ≡ found ps t
 unfolding item-by item-at closed then byte
 group-complete r b f s t ps q = rw q
 
@@ -140,7 +140,7 @@ quotient-ends r f ps Closes.end = refl
 quotient-ends r f ps Closes.close = refl
 
 quotient-slash : (r : Rules) (f : List ℕ → Found (List Part)) (b : Bool) (ps qs : List Part) (s u : List ℕ) → r .each ≡ false
-    → f s ≡ found (by (not b) qs) u → quotient-on r f (by b ps) (47 ∷ s) ≡ found (by b (ps ++ turned-all qs)) u
+    → f s ≡ found (by (not b) qs) u → quotient-on r f (by b ps) (slash ∷ s) ≡ found (by b (ps ++ turned-all qs)) u
 unfolding quotient-on appended mapped
 quotient-slash r f b ps qs s u e q = rw (e, q, by-append b ps (turned-all qs), by-turned b qs)
 

@@ -7,7 +7,7 @@ use mathlib.Core.Option.{Option, none, some}
 use lib.Dec.{T}
 use borrow.Author.Tests.{eq-eqb}
 use Rattle.label.specs.declared.Rules.{Rules}
-use Rattle.label.specs.Bytes.{all}
+use Rattle.label.specs.Bytes.{all, percent, quote}
 use Rattle.label.specs.Choice.{pick}
 use Rattle.label.specs.Notations.{member}
 use Rattle.label.specs.Units.{Name, unit-at}
@@ -29,16 +29,16 @@ read-reads o w = record { spelling = o .spells (w .derived); is = w .is }
 -- QUOTES
 
 -- a text with a quote
-quote-quoted : (a b : List ℕ) → T (all unquoted (a ++ 39 ∷ b)) → ⊥
+quote-quoted : (a b : List ℕ) → T (all unquoted (a ++ quote ∷ b)) → ⊥
 unfolding all
-quote-quoted a b t = all-right unquoted a (39 ∷ b) t
+quote-quoted a b t = all-right unquoted a (quote ∷ b) t
 
-percent-unquoted : T (all unquoted (37 ∷ []))
+percent-unquoted : T (all unquoted (percent ∷ []))
 unfolding all
 percent-unquoted = tt
 
 -- a spelling with a quote is a quoted one
-quotes-flag : {r : Rules} {t : List ℕ} → SpellingBy r t → (a b : List ℕ) → t ≡ a ++ 39 ∷ b → r .quotes ≡ true
+quotes-flag : {r : Rules} {t : List ℕ} → SpellingBy r t → (a b : List ℕ) → t ≡ a ++ quote ∷ b → r .quotes ≡ true
 quotes-flag (SpellingBy.letters d) a b e = absurd (quote-quoted a b (rw e at (letters-unquoted d)))
 quotes-flag (SpellingBy.percent f) a b e = absurd (quote-quoted a b (rw e at percent-unquoted))
 quotes-flag (SpellingBy.quoted f d) a b e = f
@@ -142,7 +142,7 @@ module _ {m : ℕ} {y : Style} (o : Suited m y) where
   quoted-text p l d f w = go (reads-as m (prefix-letters p ++ l) (unknown p l)) refl
     where
       flag : y .quotes ≡ true
-      flag = o .suits .quotes ∙ quotes-flag (o .ruled .spelled (w .spelling)) (prefix-letters p) (l ++ 39 ∷ []) refl
+      flag = o .suits .quotes ∙ quotes-flag (o .ruled .spelled (w .spelling)) (prefix-letters p) (l ++ quote ∷ []) refl
 
       go : (b : Bool) → reads-as m (prefix-letters p ++ l) (unknown p l) ≡ b
           → pick b (some (prefix-letters p ++ l)) (pick (y .quotes) (some (prefix-letters p ++ in-quotes l)) none) ≡ some (prefix-letters p ++ in-quotes l)

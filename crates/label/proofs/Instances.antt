@@ -3,6 +3,7 @@ use Prim.Native.Nat.{ℕ}
 use mathlib.Core.Path.{_≡_, refl, sym, _∙_}
 use mathlib.Core.Bool.{true, false}
 use mathlib.Core.List.{List, [], _∷_, _++_}
+use Rattle.label.specs.Bytes.{point as point-byte, slash as slash-byte, space as space-byte, star as star-byte}
 use Rattle.label.specs.declared.Rules.{Rules}
 use Rattle.label.specs.Rows.{fits-rules, ogip-rules, cds-rules, vounits-rules}
 use Rattle.label.specs.Lexical.{Numeral, Written, Factor, Part, turned-all, Kind, item, more, product, quotient, Letters, Wrapped, Spaces}
@@ -19,9 +20,9 @@ use Rattle.label.proofs.Labels.{Starts, quotient-starts}
 
 -- what joins where no spaces pad: one byte
 data Single (r : Rules) : List ℕ → Type 0 where
-  space : r .space ≡ true → Single r (32 ∷ [])
-  star : r .star ≡ true → Single r (42 ∷ [])
-  point : r .point ≡ true → Single r (46 ∷ [])
+  space : r .space ≡ true → Single r (space-byte ∷ [])
+  star : r .star ≡ true → Single r (star-byte ∷ [])
+  point : r .point ≡ true → Single r (point-byte ∷ [])
 
 single : {r : Rules} {j : List ℕ} → r .spaces ≡ false → TimesBy r j → Single r j
 single e (TimesBy.space f Pad.none) = Single.space f
@@ -35,7 +36,7 @@ single e (TimesBy.point f (Pad.space g p) q) = absurd (false-true (sym e ∙ g))
 
 -- a slash without spaces
 data Slash : List ℕ → Type 0 where
-  slash : Slash (47 ∷ [])
+  slash : Slash (slash-byte ∷ [])
 
 single-slash : {r : Rules} {j : List ℕ} → r .spaces ≡ false → OverBy r j → Slash j
 single-slash e (OverBy.slashed f Pad.none Pad.none) = Slash.slash

@@ -8,7 +8,7 @@ use lib.Dec.{T, eqb}
 use lib.ListN.{length, length-append}
 use borrow.Author.Tests.{eqb-true}
 use Rattle.label.specs.declared.Rules.{Rules}
-use Rattle.label.specs.Bytes.{letter, digit, all, run, past}
+use Rattle.label.specs.Bytes.{letter, digit, all, run, past, caret, minus, plus, slash, space, star}
 use Rattle.label.specs.Choice.{pick}
 use Rattle.label.specs.Lexical.{Factor, no-factor, Part, turned-all, item, product, quotient, Spaces}
 use Rattle.label.specs.Ogip.{Unspaced, unspaced}
@@ -26,11 +26,11 @@ use Rattle.label.proofs.Sound.{read-sound}
 -- a unit or a group, or a leading slash after spaces
 pub data Starts (r : Rules) : List ℕ → Type 0 where
   begun : {s : List ℕ} → Begins s → Starts r s
-  slashed : {a : List ℕ} → r .each ≡ true → Pad r a → (s : List ℕ) → Starts r (a ++ 47 ∷ s)
+  slashed : {a : List ℕ} → r .each ≡ true → Pad r a → (s : List ℕ) → Starts r (a ++ slash ∷ s)
 
 product-starts : {r : Rules} {s t : List ℕ} {ps : List Part} → G r product s t ps → Starts r s
 product-starts (G.first d m) = Starts.begun (item-begins d)
-product-starts (G.under {s = s} (OverBy.slashed {a = a} {b = b} e p q) d m) = rw (append-assoc a (47 ∷ b) s) (Starts.slashed e p (b ++ s))
+product-starts (G.under {s = s} (OverBy.slashed {a = a} {b = b} e p q) d m) = rw (append-assoc a (slash ∷ b) s) (Starts.slashed e p (b ++ s))
 
 pub quotient-starts : {r : Rules} {s t : List ℕ} {ps : List Part} → G r quotient s t ps → Starts r s
 quotient-starts (G.plain d) = product-starts d
@@ -40,7 +40,7 @@ quotient-starts (G.divided f d i) = product-starts d
 begins-unfactored : {s : List ℕ} → Begins s → Unfactored s
 unfolding letter digit
 begins-unfactored (Begins.by-spelling (Spells.by-letter {c = c} t)) =
-    Unfactored.other {c = c} (letter-no-digit c t) (rw (differs letter c 43 t refl, differs letter c 45 t refl)) (differs letter c 94 t refl) (differs letter c 42 t refl)
+    Unfactored.other {c = c} (letter-no-digit c t) (rw (differs letter c plus t refl, differs letter c minus t refl)) (differs letter c caret t refl) (differs letter c star t refl)
 begins-unfactored (Begins.by-spelling Spells.by-percent) = Unfactored.other refl refl refl refl
 begins-unfactored (Begins.by-spelling Spells.by-quote) = Unfactored.other refl refl refl refl
 begins-unfactored Begins.by-bracket = Unfactored.other refl refl refl refl
@@ -53,7 +53,7 @@ pad-unfactored (Pad.space f p) s h = Unfactored.other refl refl refl refl
 starts-unfactored : {r : Rules} {s : List ℕ} → Starts r s → Unfactored s
 unfolding digit
 starts-unfactored (Starts.begun b) = begins-unfactored b
-starts-unfactored (Starts.slashed e p s) = pad-unfactored p (47 ∷ s) (Unfactored.other refl refl refl refl)
+starts-unfactored (Starts.slashed e p s) = pad-unfactored p (slash ∷ s) (Unfactored.other refl refl refl refl)
 
 spaces-unfactored : {g : List ℕ} → Spaces g → (s : List ℕ) → Unfactored s → Unfactored (g ++ s)
 unfolding digit
@@ -73,7 +73,7 @@ trimmed-product : {r : Rules} {s t : List ℕ} {ps : List Part} → G r product 
 unfolding all
 trimmed-product (G.first {s = s} d m) = rw (past-of is-space [] s tt (begins-stops (item-begins d))) (G.first d m)
 trimmed-product (G.under {s = s} (OverBy.slashed {a = a} {b = b} e p q) d m) =
-    rw (append-assoc a (47 ∷ b) s, past-of is-space a (47 ∷ b ++ s) (pad-all p) (Stops.other refl)) (G.under (OverBy.slashed e Pad.none q) d m)
+    rw (append-assoc a (slash ∷ b) s, past-of is-space a (slash ∷ b ++ s) (pad-all p) (Stops.other refl)) (G.under (OverBy.slashed e Pad.none q) d m)
 
 trimmed : {r : Rules} {s t : List ℕ} {ps : List Part} → G r quotient s t ps → G r quotient (past is-space s) t ps
 trimmed (G.plain d) = G.plain (trimmed-product d)
@@ -130,7 +130,7 @@ past-short p s = omega (arith, ap length (run-past p s), length-append (run p s)
 one-space-short : (s : List ℕ) → length (one-space s) ≤ length s
 unfolding one-space
 one-space-short [] = omega arith
-one-space-short (c ∷ s) = go (eqb c 32)
+one-space-short (c ∷ s) = go (eqb c space)
   where
     go : (b : Bool) → length (pick b s (c ∷ s)) ≤ suc (length s)
     go true = omega arith
@@ -153,12 +153,12 @@ Coherent r = r .each ≡ true → r .lead ≡ false
 
 -- the text starts with no factor, and with no slash that has one item under it
 data Plainly (r : Rules) : List ℕ → Type 0 where
-  plainly : {c : ℕ} {s : List ℕ} → digit c ≡ false → (eqb c 47 && r .lead) ≡ false → Plainly r (c ∷ s)
+  plainly : {c : ℕ} {s : List ℕ} → digit c ≡ false → (eqb c slash && r .lead) ≡ false → Plainly r (c ∷ s)
 
 begun-plainly : (r : Rules) {s : List ℕ} → Unfactored s → Opens s → Plainly r s
 begun-plainly r (Unfactored.other {c = c} d e f g) o =
     let q : o .byte ≡ c = cc in
-    let n : eqb c 47 ≡ false = rw q at (o .opener .no-slash) in
+    let n : eqb c slash ≡ false = rw q at (o .opener .no-slash) in
     Plainly.plainly {c = c} d (rw n)
 
 starts-plainly : {r : Rules} {s : List ℕ} → Coherent r → Starts r s → Plainly r s
@@ -175,10 +175,10 @@ label-plain r f g (unspaced e) (Plainly.plainly d l) = rw (e, d, l)
 label-factored : (r : Rules) (f g : List ℕ → Found (List Part)) (s : List ℕ) (c : ℕ) (u : List ℕ) → s ≡ c ∷ u → digit c ≡ true → r .factor ≡ true
     → label-by f g r s ≡ factored g r (factor r s)
 unfolding label-by digit
-label-factored r f g s c u e d l = rw (e, differs digit c 32 (true→T d) refl, d, l)
+label-factored r f g s c u e d l = rw (e, differs digit c space (true→T d) refl, d, l)
 
 -- a slash with one item under it
-label-under : (r : Rules) (f g : List ℕ → Found (List Part)) (s : List ℕ) → r .lead ≡ true → label-by f g r (47 ∷ s) ≡ ended no-factor (f s)
+label-under : (r : Rules) (f g : List ℕ → Found (List Part)) (s : List ℕ) → r .lead ≡ true → label-by f g r (slash ∷ s) ≡ ended no-factor (f s)
 unfolding label-by digit
 label-under r f g s e = rw e
 
@@ -198,7 +198,7 @@ label-complete h LabelBy.empty = refl
 label-complete {r} h (LabelBy.plain {s = s} {ps = ps} u d) =
     label-plain r _ _ u (starts-plainly h (quotient-starts d)) ∙ ended-found no-factor _ ps (complete d false Closes.end (fuel s) (omega arith))
 label-complete {r} h (LabelBy.under {s = s} {ps = ps} f d) =
-    label-under r (λ u. read r (fuel (47 ∷ s)) item true u) _ s f ∙ ended-found no-factor _ (turned-all ps) (complete d true Ends.end (fuel (47 ∷ s)) (omega arith))
+    label-under r (λ u. read r (fuel (slash ∷ s)) item true u) _ s f ∙ ended-found no-factor _ (turned-all ps) (complete d true Ends.end (fuel (slash ∷ s)) (omega arith))
 label-complete {r} h (LabelBy.factored {x = x} {g = g} {s = s} {f = n} {ps = ps} l f w d) =
     let c = factor-digit f (g ++ s) in
     label-factored r _ _ (x ++ (g ++ s)) (c .0) (c .1) (c .2) (c .3) l
@@ -227,15 +227,15 @@ unfolding all
 all-spaces [] t = Spaces.none
 all-spaces (c ∷ s) t =
     let w = both (is-space c) (all is-space s) t in
-    rw (eqb-true c 32 (T→true (is-space c) (w .0))) (Spaces.space (all-spaces s (w .1)))
+    rw (eqb-true c space (T→true (is-space c) (w .0))) (Spaces.space (all-spaces s (w .1)))
 
 one-space-sound : (r : Rules) → r .space ≡ true → (s : List ℕ) → (g : List ℕ) × GapBy r g × (s ≡ g ++ one-space s)
 unfolding one-space
 one-space-sound r f [] = ([], GapBy.nothing, refl)
-one-space-sound r f (c ∷ s) = go (eqb c 32) refl
+one-space-sound r f (c ∷ s) = go (eqb c space) refl
   where
-    go : (b : Bool) → eqb c 32 ≡ b → (g : List ℕ) × GapBy r g × (c ∷ s ≡ g ++ pick b s (c ∷ s))
-    go true e = (32 ∷ [], GapBy.one f, ap (λ (z : ℕ). z ∷ s) (eqb-true c 32 e))
+    go : (b : Bool) → eqb c space ≡ b → (g : List ℕ) × GapBy r g × (c ∷ s ≡ g ++ pick b s (c ∷ s))
+    go true e = (space ∷ [], GapBy.one f, ap (λ (z : ℕ). z ∷ s) (eqb-true c space e))
     go false e = ([], GapBy.nothing, refl)
 
 gap-sound : (r : Rules) (s : List ℕ) → (g : List ℕ) × GapBy r g × (s ≡ g ++ gap r s)
@@ -255,7 +255,7 @@ plain-sound r k s f ps u h =
     let e = ended-sound _ no-factor f ps h in
     rw (← (e .same)) (LabelBy.plain u (quotient-sound r k s ps (e .is)))
 
-under-sound : (r : Rules) (k : ℕ) (s : List ℕ) (f : Factor) (ps : List Part) → r .lead ≡ true → ended no-factor (read r k item true s) ≡ parsed f ps → LabelBy r (47 ∷ s) f ps
+under-sound : (r : Rules) (k : ℕ) (s : List ℕ) (f : Factor) (ps : List Part) → r .lead ≡ true → ended no-factor (read r k item true s) ≡ parsed f ps → LabelBy r (slash ∷ s) f ps
 under-sound r k s f ps l h =
     let e = ended-sound _ no-factor f ps h in
     let w = read-sound r k item true s ps [] (e .is) in
@@ -282,18 +282,18 @@ label-sound r [] f ps h =
     let p : no-factor ≡ f = cc in
     let q : [] ≡ ps = cc in
     rw (← p, ← q) LabelBy.empty
-label-sound r (c ∷ s) f ps h = go (eqb c 32) (digit c) (r .factor) (eqb c 47) (r .lead) refl refl refl refl h
+label-sound r (c ∷ s) f ps h = go (eqb c space) (digit c) (r .factor) (eqb c slash) (r .lead) refl refl refl refl h
   where
     k : ℕ
     k = fuel (c ∷ s)
 
-    others : (z l : Bool) → eqb c 32 ≡ false → eqb c 47 ≡ z → r .lead ≡ l
+    others : (z l : Bool) → eqb c space ≡ false → eqb c slash ≡ z → r .lead ≡ l
         → pick (z && l) (ended no-factor (read r k item true s)) (ended no-factor (read r k quotient false (c ∷ s))) ≡ parsed f ps → LabelBy r (c ∷ s) f ps
-    others true true p q e h = rw (eqb-true c 47 q) (under-sound r k s f ps e h)
+    others true true p q e h = rw (eqb-true c slash q) (under-sound r k s f ps e h)
     others true false p q e h = plain-sound r k (c ∷ s) f ps (unspaced p) h
     others false l p q e h = plain-sound r k (c ∷ s) f ps (unspaced p) h
 
-    go : (x y w z l : Bool) → eqb c 32 ≡ x → r .factor ≡ w → eqb c 47 ≡ z → r .lead ≡ l
+    go : (x y w z l : Bool) → eqb c space ≡ x → r .factor ≡ w → eqb c slash ≡ z → r .lead ≡ l
         → pick x refused (pick (y && w) (factored (λ u. read r k quotient false u) r (factor r (c ∷ s)))
         (pick (z && l) (ended no-factor (read r k item true s)) (ended no-factor (read r k quotient false (c ∷ s))))) ≡ parsed f ps
         → LabelBy r (c ∷ s) f ps

@@ -11,7 +11,7 @@ use lib.ListN.{length, getD, take, drop, length-append}
 use lib.Seq.{take-at, drop-at, take-take, drop-drop}
 use borrow.Author.Tests.{lt-ltb, le-ltb}
 use Rattle.label.specs.declared.Rules.{Rules}
-use Rattle.label.specs.Bytes.{letter, all, run, past, same}
+use Rattle.label.specs.Bytes.{letter, all, run, past, same, quote}
 use Rattle.label.specs.Choice.{pick}
 use Rattle.label.specs.Prefixes.{Prefix, prefix, prefixes, placed, prefix-named, is-some, prefix-name}
 use Rattle.label.specs.Symbols.{Symbol, known, unknown, Cut, KnownCut, unquoted, follows, cut-by, cuts-from, cuts, known-cuts, longer, longest, by-longest, by-cut, by-whole, by-quote, unit-named, symbol}
@@ -33,7 +33,7 @@ use Rattle.label.proofs.Readings.{Answered, answer-of}
 pub data Spelt (l : List ℕ) : Symbol → Type 0 where
   is-known : {p : Option ℕ} {u : ℕ} → Spelt l (known p u)
   plain : {p : Option ℕ} {m : List ℕ} → past unquoted l ≡ [] → l ≡ name-of p ++ m → 0 < length m → Spelt l (unknown p m)
-  in-quotes : {p : Option ℕ} {m : List ℕ} → run unquoted l ≡ name-of p → past unquoted l ≡ 39 ∷ (m ++ (39 ∷ [])) → 0 < length m → Spelt l (unknown p m)
+  in-quotes : {p : Option ℕ} {m : List ℕ} → run unquoted l ≡ name-of p → past unquoted l ≡ quote ∷ (m ++ (quote ∷ [])) → 0 < length m → Spelt l (unknown p m)
 
 -- NAMES OF PREFIXES
 
@@ -141,19 +141,19 @@ unfolding all letter
 letters-unquoted [] t = tt
 letters-unquoted (c ∷ l) t =
     let w = both (letter c) (all letter l) t in
-    T-and (unquoted c) (all unquoted l) (true→T {b = unquoted c} (rw (differs letter c 39 (w .0) refl))) (letters-unquoted l (w .1))
+    T-and (unquoted c) (all unquoted l) (true→T {b = unquoted c} (rw (differs letter c quote (w .0) refl))) (letters-unquoted l (w .1))
 
 some-letter : {l : List ℕ} → Letters l → 0 < length l
 some-letter (Letters.letters t u) = omega arith
 
 -- letters in quotes, after a prefix name or nothing
 quoted-spelt : (n : ℕ) (p l : List ℕ) → name-of (prefix-named p) ≡ p → T (all unquoted p) → Letters l
-    → Spelt (p ++ (39 ∷ (l ++ (39 ∷ [])))) (symbol n (p ++ (39 ∷ (l ++ (39 ∷ [])))))
+    → Spelt (p ++ (quote ∷ (l ++ (quote ∷ [])))) (symbol n (p ++ (quote ∷ (l ++ (quote ∷ [])))))
 unfolding symbol by-quote
 quoted-spelt n p l q t d =
-    let a : run unquoted (p ++ (39 ∷ (l ++ (39 ∷ [])))) ≡ p = run-of unquoted p (39 ∷ (l ++ (39 ∷ []))) t (Stops.other refl) in
-    let z : past unquoted (p ++ (39 ∷ (l ++ (39 ∷ [])))) ≡ 39 ∷ (l ++ (39 ∷ [])) = past-of unquoted p (39 ∷ (l ++ (39 ∷ []))) t (Stops.other refl) in
-    let m : run unquoted (l ++ (39 ∷ [])) ≡ l = run-of unquoted l (39 ∷ []) (letters-unquoted l (letters-all d)) (Stops.other refl) in
+    let a : run unquoted (p ++ (quote ∷ (l ++ (quote ∷ [])))) ≡ p = run-of unquoted p (quote ∷ (l ++ (quote ∷ []))) t (Stops.other refl) in
+    let z : past unquoted (p ++ (quote ∷ (l ++ (quote ∷ [])))) ≡ quote ∷ (l ++ (quote ∷ [])) = past-of unquoted p (quote ∷ (l ++ (quote ∷ []))) t (Stops.other refl) in
+    let m : run unquoted (l ++ (quote ∷ [])) ≡ l = run-of unquoted l (quote ∷ []) (letters-unquoted l (letters-all d)) (Stops.other refl) in
     rw (a, z, m) (Spelt.in-quotes (a ∙ sym q) z (some-letter d))
 
 no-name : name-of (prefix-named []) ≡ []
@@ -167,7 +167,7 @@ spelling-spelt n (SpellingBy.letters {l = l} d) =
 spelling-spelt n (SpellingBy.percent e) = plain-spelt (omega arith) refl n
 spelling-spelt n (SpellingBy.quoted e (Quoted.quoted {l = l} d)) = quoted-spelt n [] l no-name tt d
 spelling-spelt n (SpellingBy.quoted e (Quoted.prefixed {p = p} {l = l} w d)) =
-    rw (append-assoc p (39 ∷ l) (39 ∷ [])) (quoted-spelt n p l (name-named w) (letters-unquoted p (letters-all (prefix-letters w))) d)
+    rw (append-assoc p (quote ∷ l) (quote ∷ [])) (quoted-spelt n p l (name-named w) (letters-unquoted p (letters-all (prefix-letters w))) d)
 
 -- DERIVATIONS
 
@@ -254,11 +254,11 @@ module _ (s : List ℕ) (start size : ℕ) {l : List ℕ} (e : take size (drop s
       rw (before-plain p m size z, in-label s start size (length (name-of p)) (length m) e (omega arith), i, drop-at (name-of p) m (length (name-of p)) refl)
       (ap (take (length m)) (sym (append-nil m)) ∙ take-at m [] (length m) refl)
   letters-spelt (unknown p m) (Spelt.in-quotes r w h) =
-      let i : l ≡ name-of p ++ (39 ∷ (m ++ (39 ∷ []))) = run-past unquoted l ∙ rw (r, w) in
-      let z : size ≡ length (name-of p) + suc (length m + 1) = q ∙ ap length i ∙ length-append (name-of p) (39 ∷ (m ++ (39 ∷ []))) ∙ ap (λ (k : ℕ). length (name-of p) + suc k) (length-append m (39 ∷ [])) in
-      let d : drop (length (name-of p) + 1) (name-of p ++ (39 ∷ (m ++ (39 ∷ [])))) ≡ m ++ (39 ∷ []) =
-      rw (← drop-drop 1 (length (name-of p)) (name-of p ++ (39 ∷ (m ++ (39 ∷ [])))), drop-at (name-of p) (39 ∷ (m ++ (39 ∷ []))) (length (name-of p)) refl) in
-      rw (before-quoted p m size z, in-label s start size (length (name-of p) + 1) (length m) e (omega arith), i, d) (take-at m (39 ∷ []) (length m) refl)
+      let i : l ≡ name-of p ++ (quote ∷ (m ++ (quote ∷ []))) = run-past unquoted l ∙ rw (r, w) in
+      let z : size ≡ length (name-of p) + suc (length m + 1) = q ∙ ap length i ∙ length-append (name-of p) (quote ∷ (m ++ (quote ∷ []))) ∙ ap (λ (k : ℕ). length (name-of p) + suc k) (length-append m (quote ∷ [])) in
+      let d : drop (length (name-of p) + 1) (name-of p ++ (quote ∷ (m ++ (quote ∷ [])))) ≡ m ++ (quote ∷ []) =
+      rw (← drop-drop 1 (length (name-of p)) (name-of p ++ (quote ∷ (m ++ (quote ∷ [])))), drop-at (name-of p) (quote ∷ (m ++ (quote ∷ []))) (length (name-of p)) refl) in
+      rw (before-quoted p m size z, in-label s start size (length (name-of p) + 1) (length m) e (omega arith), i, d) (take-at m (quote ∷ []) (length m) refl)
 
 -- the letters of every term are at their place
 pub letters-there : (n : ℕ) (s : List ℕ)

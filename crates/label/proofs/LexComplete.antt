@@ -9,7 +9,7 @@ use lib.Dec.{T, eqb}
 use lib.ListN.{length, length-append}
 use borrow.Author.Tests.{eqb-true}
 use Rattle.label.specs.declared.Rules.{Rules}
-use Rattle.label.specs.Bytes.{letter, digit, nonzero, all, same}
+use Rattle.label.specs.Bytes.{letter, digit, nonzero, all, same, caret, close-bracket, digit-one, digit-zero, minus, open-bracket, plus, point, quote, slash, star}
 use Rattle.label.specs.Choice.{pick}
 use Rattle.label.specs.Prefixes.{Prefix, prefixes, placed, prefix-named, is-some, prefix-name}
 use Rattle.label.specs.Lexical.{Numeral, Written, unwritten, whole, decimal, Factor, ten-to, zeros, Letters, PrefixName, Quoted, Unsigned, Signed, Integer, Digits, Decimal, Bracketed, Power, Plain}
@@ -33,52 +33,52 @@ unfolding integer mapped nonzero
 integer-complete (Integer.signed (Signed.positive u)) rest h = rw (unsigned-complete u rest h)
 integer-complete (Integer.signed (Signed.negative u)) rest h = rw (unsigned-complete u rest h)
 integer-complete (Integer.plain (Unsigned.unsigned {c = c} {s = s} t a)) rest h =
-    rw (differs nonzero c 45 t refl, differs nonzero c 43 t refl, unsigned-complete (Unsigned.unsigned {c = c} {s = s} t a) rest h)
+    rw (differs nonzero c minus t refl, differs nonzero c plus t refl, unsigned-complete (Unsigned.unsigned {c = c} {s = s} t a) rest h)
 
 -- what begins with a sign or a digit: no letter, no quote, no opening bracket
 data Numeric : List ℕ → Type 0 where
-  numeric : {c : ℕ} {s : List ℕ} → (sign c || digit c) ≡ true → letter c ≡ false → eqb c 39 ≡ false → eqb c 40 ≡ false → Numeric (c ∷ s)
+  numeric : {c : ℕ} {s : List ℕ} → (sign c || digit c) ≡ true → letter c ≡ false → eqb c quote ≡ false → eqb c open-bracket ≡ false → Numeric (c ∷ s)
 
 integer-numeric : {e : List ℕ} {n : Numeral} → Integer e n → (rest : List ℕ) → Numeric (e ++ rest)
 unfolding digit letter nonzero
 integer-numeric (Integer.signed (Signed.positive u)) rest = Numeric.numeric refl refl refl refl
 integer-numeric (Integer.signed (Signed.negative u)) rest = Numeric.numeric refl refl refl refl
 integer-numeric (Integer.plain (Unsigned.unsigned {c = c} t a)) rest =
-    Numeric.numeric {c = c} (rw (differs nonzero c 43 t refl, differs nonzero c 45 t refl) (nonzero-digit c t)) (digit-no-letter c (true→T (nonzero-digit c t)))
-    (differs nonzero c 39 t refl) (differs nonzero c 40 t refl)
+    Numeric.numeric {c = c} (rw (differs nonzero c plus t refl, differs nonzero c minus t refl) (nonzero-digit c t)) (digit-no-letter c (true→T (nonzero-digit c t)))
+    (differs nonzero c quote t refl) (differs nonzero c open-bracket t refl)
 
 -- POWERS
 
 -- a value and the closing bracket
-closed-complete : {A B : Type 0} (f : A → B) (x : Found A) (a : A) (rest : List ℕ) → x ≡ found a (41 ∷ rest) → closed f x ≡ found (f a) rest
+closed-complete : {A B : Type 0} (f : A → B) (x : Found A) (a : A) (rest : List ℕ) → x ≡ found a (close-bracket ∷ rest) → closed f x ≡ found (f a) rest
 unfolding closed then byte
 closed-complete f x a rest e = rw e
 
 -- an opening bracket and what is found after it
 record Opened (s : List ℕ) (w : Written) (rest : List ℕ) : Type 0 where
   behind : List ℕ
-  opens : s ≡ 40 ∷ behind
+  opens : s ≡ open-bracket ∷ behind
   finds : bracketed behind ≡ found w rest
 
 -- a decimal and the closing bracket
-decimal-complete : {s d : List ℕ} {n : Numeral} → Decimal s n d → (rest : List ℕ) → bracketed (s ++ 41 ∷ rest) ≡ found (decimal n d) rest
+decimal-complete : {s d : List ℕ} {n : Numeral} → Decimal s n d → (rest : List ℕ) → bracketed (s ++ close-bracket ∷ rest) ≡ found (decimal n d) rest
 unfolding bracketed then bracketed-on digit
 decimal-complete (Decimal.pointed {s = s} {d = d} i g) rest =
-    rw (append-assoc s (46 ∷ d) (41 ∷ rest), integer-complete i (46 ∷ d ++ 41 ∷ rest) (Stops.other refl))
-    (closed-complete _ _ d rest (digits-complete g (41 ∷ rest) (Stops.other refl)))
+    rw (append-assoc s (point ∷ d) (close-bracket ∷ rest), integer-complete i (point ∷ d ++ close-bracket ∷ rest) (Stops.other refl))
+    (closed-complete _ _ d rest (digits-complete g (close-bracket ∷ rest) (Stops.other refl)))
 
 bracketed-complete : {s : List ℕ} {w : Written} → Bracketed s w → (rest : List ℕ) → Opened (s ++ rest) w rest
 unfolding bracketed then bracketed-on digit
 bracketed-complete (Bracketed.an-integer {s = s} i) rest =
-    record { behind = _; opens = refl; finds = rw (append-assoc s (41 ∷ []) rest, integer-complete i (41 ∷ rest) (Stops.other refl)) }
+    record { behind = _; opens = refl; finds = rw (append-assoc s (close-bracket ∷ []) rest, integer-complete i (close-bracket ∷ rest) (Stops.other refl)) }
 bracketed-complete (Bracketed.a-decimal {s = s} g) rest =
-    record { behind = _; opens = refl; finds = rw (append-assoc s (41 ∷ []) rest) (decimal-complete g rest) }
+    record { behind = _; opens = refl; finds = rw (append-assoc s (close-bracket ∷ []) rest) (decimal-complete g rest) }
 bracketed-complete (Bracketed.a-fraction {s = s} {d = d} i u) rest =
     record {
       behind = _;
       opens = refl;
-      finds = rw (append-assoc (s ++ 47 ∷ d) (41 ∷ []) rest, append-assoc s (47 ∷ d) (41 ∷ rest), integer-complete i (47 ∷ d ++ 41 ∷ rest) (Stops.other refl))
-          (closed-complete _ _ d rest (unsigned-complete u (41 ∷ rest) (Stops.other refl)));
+      finds = rw (append-assoc (s ++ slash ∷ d) (close-bracket ∷ []) rest, append-assoc s (slash ∷ d) (close-bracket ∷ rest), integer-complete i (slash ∷ d ++ close-bracket ∷ rest) (Stops.other refl))
+          (closed-complete _ _ d rest (unsigned-complete u (close-bracket ∷ rest) (Stops.other refl)));
     }
 
 -- a power that no bracket begins is the integer there, one that a bracket begins what is found after it
@@ -86,7 +86,7 @@ numeric-power : {s : List ℕ} {n : Numeral} {rest : List ℕ} → Numeric s →
 unfolding power mapped
 numeric-power (Numeric.numeric a b c d) e = rw (d, e)
 
-opened-power : (s : List ℕ) {w : Written} {rest : List ℕ} (t : List ℕ) → s ≡ 40 ∷ t → bracketed t ≡ found w rest → power s ≡ found w rest
+opened-power : (s : List ℕ) {w : Written} {rest : List ℕ} (t : List ℕ) → s ≡ open-bracket ∷ t → bracketed t ≡ found w rest → power s ≡ found w rest
 unfolding power
 opened-power s t o f = rw o f
 
@@ -116,7 +116,7 @@ unlettered Ends.point = Unlettered.other refl refl
 unlettered Ends.slash = Unlettered.other refl refl
 
 -- one star is no power
-one-star : (b : Bool) {s : List ℕ} → NoStar s → pick b (starred (42 ∷ s) s) (found unwritten (42 ∷ s)) ≡ found unwritten (42 ∷ s)
+one-star : (b : Bool) {s : List ℕ} → NoStar s → pick b (starred (star ∷ s) s) (found unwritten (star ∷ s)) ≡ found unwritten (star ∷ s)
 unfolding starred
 one-star true NoStar.end = refl
 one-star true (NoStar.other e) = rw e
@@ -135,7 +135,7 @@ numeric-exponent : (r : Rules) {s : List ℕ} {n : Numeral} {rest : List ℕ} �
 unfolding exponent mapped
 numeric-exponent r f (Numeric.numeric a b c d) e = rw (a, f, e)
 
-opened-exponent : (r : Rules) (s : List ℕ) {w : Written} {rest : List ℕ} → r .brackets ≡ true → (t : List ℕ) → s ≡ 40 ∷ t → bracketed t ≡ found w rest → exponent r s ≡ found w rest
+opened-exponent : (r : Rules) (s : List ℕ) {w : Written} {rest : List ℕ} → r .brackets ≡ true → (t : List ℕ) → s ≡ open-bracket ∷ t → bracketed t ≡ found w rest → exponent r s ≡ found w rest
 unfolding exponent digit
 opened-exponent r s g t o f = rw (o, g) f
 
@@ -199,11 +199,11 @@ unfolding all
 letters-all (Letters.letters {c = c} {s = s} t a) = T-and (letter c) (all letter s) t a
 
 -- the letters after a quote, and the closing quote
-quoted-complete : (p : List ℕ) {l : List ℕ} → Letters l → (rest : List ℕ) → quoted p (l ++ 39 ∷ rest) ≡ found (p ++ 39 ∷ l ++ 39 ∷ []) rest
+quoted-complete : (p : List ℕ) {l : List ℕ} → Letters l → (rest : List ℕ) → quoted p (l ++ quote ∷ rest) ≡ found (p ++ quote ∷ l ++ quote ∷ []) rest
 unfolding quoted quoted-on byte letter
 quoted-complete p (Letters.letters {c = c} {s = s} t a) rest =
     let b = letters-all (Letters.letters {c = c} {s = s} t a) in
-    rw (run-of letter (c ∷ s) (39 ∷ rest) b (Stops.other refl), past-of letter (c ∷ s) (39 ∷ rest) b (Stops.other refl))
+    rw (run-of letter (c ∷ s) (quote ∷ rest) b (Stops.other refl), past-of letter (c ∷ s) (quote ∷ rest) b (Stops.other refl))
 
 -- letters that no letter follows
 lettered-run : (r : Rules) {l : List ℕ} → Letters l → (rest : List ℕ) → Stops letter rest → spelling r (l ++ rest) ≡ lettered r l rest
@@ -222,16 +222,16 @@ lettered-complete r l Unlettered.end = refl
 lettered-complete r l (Unlettered.other a b) = rw b
 
 -- a quote after a prefix name
-prefixed-complete : (r : Rules) (p s : List ℕ) → r .quotes ≡ true → PrefixName p → lettered r p (39 ∷ s) ≡ quoted p s
+prefixed-complete : (r : Rules) (p s : List ℕ) → r .quotes ≡ true → PrefixName p → lettered r p (quote ∷ s) ≡ quoted p s
 unfolding lettered
 prefixed-complete r p s f (PrefixName.named t) = rw (f, T→true (prefix-name p) t)
 
 quoted-spelling : (r : Rules) {l : List ℕ} → r .quotes ≡ true → Quoted l → (rest : List ℕ) → spelling r (l ++ rest) ≡ found l rest
 unfolding spelling letter
-quoted-spelling r f (Quoted.quoted {l = l} q) rest = rw (f, append-assoc l (39 ∷ []) rest) (quoted-complete [] q rest)
+quoted-spelling r f (Quoted.quoted {l = l} q) rest = rw (f, append-assoc l (quote ∷ []) rest) (quoted-complete [] q rest)
 quoted-spelling r f (Quoted.prefixed {p = p} {l = l} n q) rest =
-    rw (append-assoc (p ++ 39 ∷ l) (39 ∷ []) rest, append-assoc p (39 ∷ l) (39 ∷ rest))
-    (lettered-run r (prefix-letters n) (39 ∷ l ++ 39 ∷ rest) (Stops.other refl) ∙ prefixed-complete r p (l ++ 39 ∷ rest) f n ∙ quoted-complete p q rest)
+    rw (append-assoc (p ++ quote ∷ l) (quote ∷ []) rest, append-assoc p (quote ∷ l) (quote ∷ rest))
+    (lettered-run r (prefix-letters n) (quote ∷ l ++ quote ∷ rest) (Stops.other refl) ∙ prefixed-complete r p (l ++ quote ∷ rest) f n ∙ quoted-complete p q rest)
 
 pub spelling-complete : (r : Rules) {l : List ℕ} → SpellingBy r l → (rest : List ℕ) → Unlettered rest → spelling r (l ++ rest) ≡ found l rest
 unfolding spelling letter
@@ -243,7 +243,7 @@ spelling-complete r (SpellingBy.quoted f q) rest h = quoted-spelling r f q rest
 
 -- what may follow a factor: no digit, no sign, no caret, no star
 pub data Unfactored : List ℕ → Type 0 where
-  other : {c : ℕ} {s : List ℕ} → digit c ≡ false → sign c ≡ false → eqb c 94 ≡ false → eqb c 42 ≡ false → Unfactored (c ∷ s)
+  other : {c : ℕ} {s : List ℕ} → digit c ≡ false → sign c ≡ false → eqb c caret ≡ false → eqb c star ≡ false → Unfactored (c ∷ s)
 
 undigited : {s : List ℕ} → Unfactored s → Stops digit s
 undigited (Unfactored.other d e f g) = Stops.other d
@@ -256,25 +256,25 @@ wrapped-complete : (r : Rules) {e : List ℕ} {n : Numeral} → WrappedBy r e n 
 unfolding wrapped digit
 wrapped-complete r (WrappedBy.bare i) rest h = numeric-wrapped r (integer-numeric i rest) (integer-complete i rest h)
 wrapped-complete r (WrappedBy.bracketed {s = s} f i) rest h =
-    rw (f, append-assoc s (41 ∷ []) rest) (closed-complete ten-to _ _ rest (integer-complete i (41 ∷ rest) (Stops.other refl)))
+    rw (f, append-assoc s (close-bracket ∷ []) rest) (closed-complete ten-to _ _ rest (integer-complete i (close-bracket ∷ rest) (Stops.other refl)))
 
 -- the digits 10
-ten-complete : (r : Rules) (s : List ℕ) → Stops digit s → factor r (49 ∷ 48 ∷ s) ≡ ten-factor r (49 ∷ 48 ∷ []) s
+ten-complete : (r : Rules) (s : List ℕ) → Stops digit s → factor r (digit-one ∷ digit-zero ∷ s) ≡ ten-factor r (digit-one ∷ digit-zero ∷ []) s
 unfolding factor ten all digit
-ten-complete r s h = rw (run-of digit (49 ∷ 48 ∷ []) s tt h, past-of digit (49 ∷ 48 ∷ []) s tt h)
+ten-complete r s h = rw (run-of digit (digit-one ∷ digit-zero ∷ []) s tt h, past-of digit (digit-one ∷ digit-zero ∷ []) s tt h)
 
-signed-complete : (r : Rules) {e : List ℕ} {n : Numeral} → r .signed ≡ true → Signed e n → (rest : List ℕ) → Stops digit rest → factor r (49 ∷ 48 ∷ e ++ rest) ≡ found (ten-to n) rest
+signed-complete : (r : Rules) {e : List ℕ} {n : Numeral} → r .signed ≡ true → Signed e n → (rest : List ℕ) → Stops digit rest → factor r (digit-one ∷ digit-zero ∷ e ++ rest) ≡ found (ten-to n) rest
 unfolding ten-factor mapped digit
 signed-complete r f (Signed.positive {s = s} u) rest h =
-    ten-complete r (43 ∷ s ++ rest) (Stops.other refl) ∙ rw (f, integer-complete (Integer.signed (Signed.positive u)) rest h)
+    ten-complete r (plus ∷ s ++ rest) (Stops.other refl) ∙ rw (f, integer-complete (Integer.signed (Signed.positive u)) rest h)
 signed-complete r f (Signed.negative {s = s} u) rest h =
-    ten-complete r (45 ∷ s ++ rest) (Stops.other refl) ∙ rw (f, integer-complete (Integer.signed (Signed.negative u)) rest h)
+    ten-complete r (minus ∷ s ++ rest) (Stops.other refl) ∙ rw (f, integer-complete (Integer.signed (Signed.negative u)) rest h)
 
 -- 1 and k zeros
 record Zeros (x : List ℕ) (k : ℕ) : Type 0 where
   after : List ℕ
-  is : x ≡ 49 ∷ after
-  zero : T (all (λ d. eqb d 48) after)
+  is : x ≡ digit-one ∷ after
+  zero : T (all (λ d. eqb d digit-zero) after)
   long : length after ≡ k
 
 all-append : (p : ℕ → Bool) (s t : List ℕ) → T (all p s) → T (all p t) → T (all p (s ++ t))
@@ -287,20 +287,20 @@ unfolding all
 plain-zeros Plain.one = record { after = []; is = refl; zero = tt; long = refl }
 plain-zeros (Plain.ten-times p) = go (plain-zeros p)
   where
-    go : {x : List ℕ} {k : ℕ} → Zeros x k → Zeros (x ++ 48 ∷ []) (suc k)
+    go : {x : List ℕ} {k : ℕ} → Zeros x k → Zeros (x ++ digit-zero ∷ []) (suc k)
     go z = record {
-      after = z .after ++ 48 ∷ [];
+      after = z .after ++ digit-zero ∷ [];
       is = rw (z .is);
-      zero = all-append _ (z .after) (48 ∷ []) (z .zero) tt;
+      zero = all-append _ (z .after) (digit-zero ∷ []) (z .zero) tt;
       long = simp (length-append, z .long) (omega arith);
     }
 
-zeros-digits : (s : List ℕ) → T (all (λ d. eqb d 48) s) → T (all digit s)
+zeros-digits : (s : List ℕ) → T (all (λ d. eqb d digit-zero) s) → T (all digit s)
 unfolding all digit
 zeros-digits [] t = tt
 zeros-digits (c ∷ s) t =
-    let w = both (eqb c 48) (all (λ d. eqb d 48) s) t in
-    T-and (digit c) (all digit s) (rw (eqb-true c 48 (T→true (eqb c 48) (w .0))) tt) (zeros-digits s (w .1))
+    let w = both (eqb c digit-zero) (all (λ d. eqb d digit-zero) s) t in
+    T-and (digit c) (all digit s) (rw (eqb-true c digit-zero (T→true (eqb c digit-zero) (w .0))) tt) (zeros-digits s (w .1))
 
 -- what no sign, caret or star follows is no power of ten
 ten-plain : (r : Rules) (b : Bool) (ds : List ℕ) {rest : List ℕ} → Unfactored rest
@@ -309,23 +309,23 @@ unfolding ten-factor
 ten-plain r true ds (Unfactored.other d e f g) = rw (e, f, g)
 ten-plain r false ds h = refl
 
-zeros-factor : (r : Rules) (z rest : List ℕ) (k : ℕ) → r .plain ≡ true → T (all (λ d. eqb d 48) z) → length z ≡ k → plain-factor r (49 ∷ z) rest ≡ found (zeros k) rest
+zeros-factor : (r : Rules) (z rest : List ℕ) (k : ℕ) → r .plain ≡ true → T (all (λ d. eqb d digit-zero) z) → length z ≡ k → plain-factor r (digit-one ∷ z) rest ≡ found (zeros k) rest
 unfolding plain-factor plain-digits
 zeros-factor r z rest k f t e =
     let p : suc (length z) - 1 ≡ k = omega arith in
-    rw (T→true (all (λ d. eqb d 48) z) t, f, p)
+    rw (T→true (all (λ d. eqb d digit-zero) z) t, f, p)
 
 plain-complete : (r : Rules) {x : List ℕ} {k : ℕ} → r .plain ≡ true → Zeros x k → (rest : List ℕ) → Unfactored rest → factor r (x ++ rest) ≡ found (zeros k) rest
 unfolding factor all digit
 plain-complete r {k = k} f z rest h =
     let a = zeros-digits (z .after) (z .zero) in
-    rw (z .is, run-of digit (49 ∷ z .after) rest a (undigited h), past-of digit (49 ∷ z .after) rest a (undigited h))
-    (ten-plain r (ten (49 ∷ z .after)) (49 ∷ z .after) h ∙ zeros-factor r (z .after) rest k f (z .zero) (z .long))
+    rw (z .is, run-of digit (digit-one ∷ z .after) rest a (undigited h), past-of digit (digit-one ∷ z .after) rest a (undigited h))
+    (ten-plain r (ten (digit-one ∷ z .after)) (digit-one ∷ z .after) h ∙ zeros-factor r (z .after) rest k f (z .zero) (z .long))
 
 pub factor-complete : (r : Rules) {x : List ℕ} {f : Factor} → FactorBy r x f → (rest : List ℕ) → Unfactored rest → factor r (x ++ rest) ≡ found f rest
 unfolding ten-factor starred-factor digit
-factor-complete r (FactorBy.stars {e = e} w) rest h = ten-complete r (42 ∷ 42 ∷ e ++ rest) (Stops.other refl) ∙ wrapped-complete r w rest (undigited h)
-factor-complete r (FactorBy.caret {e = e} f w) rest h = ten-complete r (94 ∷ e ++ rest) (Stops.other refl) ∙ rw (wrapped-complete r w rest (undigited h), f)
+factor-complete r (FactorBy.stars {e = e} w) rest h = ten-complete r (star ∷ star ∷ e ++ rest) (Stops.other refl) ∙ wrapped-complete r w rest (undigited h)
+factor-complete r (FactorBy.caret {e = e} f w) rest h = ten-complete r (caret ∷ e ++ rest) (Stops.other refl) ∙ rw (wrapped-complete r w rest (undigited h), f)
 factor-complete r (FactorBy.signed f i) rest h = signed-complete r f i rest (undigited h)
 factor-complete r (FactorBy.plain f p) rest h = plain-complete r f (plain-zeros p) rest h
 

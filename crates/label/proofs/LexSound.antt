@@ -8,7 +8,7 @@ use lib.Dec.{T, eqb}
 use lib.ListN.{length}
 use borrow.Author.Tests.{eqb-true}
 use Rattle.label.specs.declared.Rules.{Rules}
-use Rattle.label.specs.Bytes.{letter, digit, nonzero, all, run, past}
+use Rattle.label.specs.Bytes.{letter, digit, nonzero, all, run, past, caret, close-bracket, digit-one, digit-zero, minus as minus-byte, open-bracket, percent, plus, point, quote, slash, star}
 use Rattle.label.specs.Choice.{pick}
 use Rattle.label.specs.Prefixes.{prefix-name}
 use Rattle.label.specs.Lexical.{Numeral, Written, unwritten, whole, decimal, fraction, Factor, ten-to, zeros, Letters, PrefixName, Quoted, Unsigned, Signed, Integer, Digits, Decimal, Bracketed, Power, Plain}
@@ -46,11 +46,11 @@ mapped-sound f P Q x s b rest up ih h =
     (w .0, rw (m .is) at (up (w .0) (m .value) (w .1)), w .2)
 
 closed-sound : {A B : Type 0} (f : A → B) (P : List ℕ → A → Type 0) (Q : List ℕ → B → Type 0) (x : Found A) (s : List ℕ) (b : B) (rest : List ℕ)
-    → ((e : List ℕ) (a : A) → P e a → Q (e ++ 41 ∷ []) (f a)) → ((a : A) (t : List ℕ) → x ≡ found a t → Begins P s a t) → closed f x ≡ found b rest → Begins Q s b rest
+    → ((e : List ℕ) (a : A) → P e a → Q (e ++ close-bracket ∷ []) (f a)) → ((a : A) (t : List ℕ) → x ≡ found a t → Begins P s a t) → closed f x ≡ found b rest → Begins Q s b rest
 closed-sound f P Q x s b rest up ih h =
     let m = closed-found f x b rest h in
-    let w = ih (m .value) (41 ∷ rest) (m .one) in
-    (w .0 ++ 41 ∷ [], rw (m .is) at (up (w .0) (m .value) (w .1)), join-texts s (41 ∷ rest) rest (w .0) (41 ∷ []) (w .2) refl)
+    let w = ih (m .value) (close-bracket ∷ rest) (m .one) in
+    (w .0 ++ close-bracket ∷ [], rw (m .is) at (up (w .0) (m .value) (w .1)), join-texts s (close-bracket ∷ rest) rest (w .0) (close-bracket ∷ []) (w .2) refl)
 
 -- NUMBERS
 
@@ -83,17 +83,17 @@ signed-by b v c s n rest t make h =
 -- an integer from its first byte on, with a sign where that byte is one
 integer-by : (c : ℕ) (s : List ℕ) (n : Numeral) (rest : List ℕ) → integer (c ∷ s) ≡ found n rest → Begins (λ e n. pick (sign c) (Signed e n) (Integer e n)) (c ∷ s) n rest
 unfolding integer
-integer-by c s n rest h = go (eqb c 43) (eqb c 45) refl refl h
+integer-by c s n rest h = go (eqb c plus) (eqb c minus-byte) refl refl h
   where
-    minus : eqb c 45 ≡ true → mapped (numeral true) (unsigned s) ≡ found n rest → Begins Signed (c ∷ s) n rest
-    minus t h = signed-by true 45 c s n rest t (λ d u. Signed.negative u) h
+    minus : eqb c minus-byte ≡ true → mapped (numeral true) (unsigned s) ≡ found n rest → Begins Signed (c ∷ s) n rest
+    minus t h = signed-by true minus-byte c s n rest t (λ d u. Signed.negative u) h
 
-    go : (x y : Bool) → eqb c 43 ≡ x → eqb c 45 ≡ y
+    go : (x y : Bool) → eqb c plus ≡ x → eqb c minus-byte ≡ y
         → pick y (mapped (numeral true) (unsigned s)) (pick x (mapped (numeral false) (unsigned s)) (mapped (numeral false) (unsigned (c ∷ s)))) ≡ found n rest
         → Begins (λ e n. pick (x || y) (Signed e n) (Integer e n)) (c ∷ s) n rest
     go true true p q h = minus q h
     go false true p q h = minus q h
-    go true false p q h = signed-by false 43 c s n rest p (λ d u. Signed.positive u) h
+    go true false p q h = signed-by false plus c s n rest p (λ d u. Signed.positive u) h
     go false false p q h =
         mapped-sound (numeral false) (Itself Unsigned) Integer (unsigned (c ∷ s)) (c ∷ s) n rest (λ e d u. rw (← (u .1)) (Integer.plain (u .0))) (λ d q. unsigned-sound (c ∷ s) d rest q) h
 
@@ -113,31 +113,31 @@ integer-sound (c ∷ s) n rest h = let w = integer-by c s n rest h in (w .0, any
 
 -- the byte v, a text that is its own value, and a closing bracket, after the integer i
 behind-integer : (i : List ℕ) (f : List ℕ → Written) (P : List ℕ → Type 0) (c v : ℕ) (x : Found (List ℕ)) (s : List ℕ) (w : Written) (rest : List ℕ) → eqb c v ≡ true
-    → ((d : List ℕ) → P d → Bracketed (40 ∷ i ++ v ∷ d ++ 41 ∷ []) (f d)) → ((d t : List ℕ) → x ≡ found d t → Begins (Itself P) s d t)
-    → closed f x ≡ found w rest → Begins (Behind (40 ∷ i) Bracketed) (c ∷ s) w rest
+    → ((d : List ℕ) → P d → Bracketed (open-bracket ∷ i ++ v ∷ d ++ close-bracket ∷ []) (f d)) → ((d t : List ℕ) → x ≡ found d t → Begins (Itself P) s d t)
+    → closed f x ≡ found w rest → Begins (Behind (open-bracket ∷ i) Bracketed) (c ∷ s) w rest
 behind-integer i f P c v x s w rest t make ih h =
-    behind (Behind (v ∷ []) (Behind (40 ∷ i) Bracketed)) (Behind (40 ∷ i) Bracketed) c v s w rest t (λ e b. b)
-    (closed-sound f (Itself P) (Behind (v ∷ []) (Behind (40 ∷ i) Bracketed)) x s w rest (λ e d u. rw (← (u .1), ← (append-assoc i (v ∷ e) (41 ∷ []))) (make e (u .0))) ih h)
+    behind (Behind (v ∷ []) (Behind (open-bracket ∷ i) Bracketed)) (Behind (open-bracket ∷ i) Bracketed) c v s w rest t (λ e b. b)
+    (closed-sound f (Itself P) (Behind (v ∷ []) (Behind (open-bracket ∷ i) Bracketed)) x s w rest (λ e d u. rw (← (u .1), ← (append-assoc i (v ∷ e) (close-bracket ∷ []))) (make e (u .0))) ih h)
 
 -- what follows the integer i of a power in brackets
 bracketed-on-sound : (n : Numeral) (i : List ℕ) → Integer i n → (s : List ℕ) (w : Written) (rest : List ℕ) → bracketed-on n s ≡ found w rest
-    → Begins (Behind (40 ∷ i) Bracketed) s w rest
+    → Begins (Behind (open-bracket ∷ i) Bracketed) s w rest
 unfolding bracketed-on
 bracketed-on-sound n i d [] w rest h = absurd (none-found h)
-bracketed-on-sound n i d (c ∷ s) w rest h = go (eqb c 41) (eqb c 46) (eqb c 47) refl refl refl h
+bracketed-on-sound n i d (c ∷ s) w rest h = go (eqb c close-bracket) (eqb c point) (eqb c slash) refl refl refl h
   where
-    go : (x y z : Bool) → eqb c 41 ≡ x → eqb c 46 ≡ y → eqb c 47 ≡ z
+    go : (x y z : Bool) → eqb c close-bracket ≡ x → eqb c point ≡ y → eqb c slash ≡ z
         → pick x (found (whole n) s) (pick y (closed (decimal n) (digits s)) (pick z (closed (fraction n) (unsigned s)) none)) ≡ found w rest
-        → Begins (Behind (40 ∷ i) Bracketed) (c ∷ s) w rest
+        → Begins (Behind (open-bracket ∷ i) Bracketed) (c ∷ s) w rest
     go true y z p q o h =
         let same : whole n ≡ w = cc in
-        (41 ∷ [], rw same at (Bracketed.an-integer d), cc (eqb-true c 41 p))
-    go false true z p q o h = behind-integer i (decimal n) Digits c 46 (digits s) s w rest q (λ e t. Bracketed.a-decimal (Decimal.pointed d t)) (λ e t q. digits-sound s e t q) h
-    go false false true p q o h = behind-integer i (fraction n) Unsigned c 47 (unsigned s) s w rest o (λ e t. Bracketed.a-fraction d t) (λ e t q. unsigned-sound s e t q) h
+        (close-bracket ∷ [], rw same at (Bracketed.an-integer d), cc (eqb-true c close-bracket p))
+    go false true z p q o h = behind-integer i (decimal n) Digits c point (digits s) s w rest q (λ e t. Bracketed.a-decimal (Decimal.pointed d t)) (λ e t q. digits-sound s e t q) h
+    go false false true p q o h = behind-integer i (fraction n) Unsigned c slash (unsigned s) s w rest o (λ e t. Bracketed.a-fraction d t) (λ e t q. unsigned-sound s e t q) h
     go false false false p q o h = absurd (none-found h)
 
 -- a power in brackets, from after the opening one
-bracketed-sound : (s : List ℕ) (w : Written) (rest : List ℕ) → bracketed s ≡ found w rest → Begins (Behind (40 ∷ []) Bracketed) s w rest
+bracketed-sound : (s : List ℕ) (w : Written) (rest : List ℕ) → bracketed s ≡ found w rest → Begins (Behind (open-bracket ∷ []) Bracketed) s w rest
 unfolding bracketed
 bracketed-sound s w rest h =
     let m = then-found (integer s) bracketed-on w rest h in
@@ -148,10 +148,10 @@ bracketed-sound s w rest h =
 pub power-sound : (s : List ℕ) (w : Written) (rest : List ℕ) → power s ≡ found w rest → (e : List ℕ) × Power e w × (s ≡ e ++ rest)
 unfolding power
 power-sound [] w rest h = absurd (none-found h)
-power-sound (c ∷ s) w rest h = go (eqb c 40) refl h
+power-sound (c ∷ s) w rest h = go (eqb c open-bracket) refl h
   where
-    go : (x : Bool) → eqb c 40 ≡ x → pick x (bracketed s) (mapped whole (integer (c ∷ s))) ≡ found w rest → Begins Power (c ∷ s) w rest
-    go true p h = behind (Behind (40 ∷ []) Bracketed) Power c 40 s w rest p (λ e b. Power.bracketed b) (bracketed-sound s w rest h)
+    go : (x : Bool) → eqb c open-bracket ≡ x → pick x (bracketed s) (mapped whole (integer (c ∷ s))) ≡ found w rest → Begins Power (c ∷ s) w rest
+    go true p h = behind (Behind (open-bracket ∷ []) Bracketed) Power c open-bracket s w rest p (λ e b. Power.bracketed b) (bracketed-sound s w rest h)
     go false p h = mapped-sound whole Integer Power (integer (c ∷ s)) (c ∷ s) w rest (λ e n i. Power.integer i) (λ n q. integer-sound (c ∷ s) n rest q) h
 
 -- no power
@@ -161,44 +161,44 @@ unpowered r s w rest h =
     ([], rw (← same) ExponentBy.none, (cc))
 
 -- two stars and a power, or no power; c is the first star
-starred-sound : (r : Rules) (c : ℕ) (s : List ℕ) (w : Written) (rest : List ℕ) → r .stars ≡ true → eqb c 42 ≡ true → starred (c ∷ s) s ≡ found w rest → Begins (ExponentBy r) (c ∷ s) w rest
+starred-sound : (r : Rules) (c : ℕ) (s : List ℕ) (w : Written) (rest : List ℕ) → r .stars ≡ true → eqb c star ≡ true → starred (c ∷ s) s ≡ found w rest → Begins (ExponentBy r) (c ∷ s) w rest
 unfolding starred
 starred-sound r c [] w rest f p h = unpowered r (c ∷ []) w rest h
-starred-sound r c (d ∷ s) w rest f p h = go (eqb d 42) refl h
+starred-sound r c (d ∷ s) w rest f p h = go (eqb d star) refl h
   where
-    go : (x : Bool) → eqb d 42 ≡ x → pick x (power s) (found unwritten (c ∷ d ∷ s)) ≡ found w rest → Begins (ExponentBy r) (c ∷ d ∷ s) w rest
+    go : (x : Bool) → eqb d star ≡ x → pick x (power s) (found unwritten (c ∷ d ∷ s)) ≡ found w rest → Begins (ExponentBy r) (c ∷ d ∷ s) w rest
     go true q h =
-        behind (Behind (42 ∷ []) (ExponentBy r)) (ExponentBy r) c 42 (d ∷ s) w rest p (λ e b. b)
-        (behind Power (Behind (42 ∷ []) (ExponentBy r)) d 42 s w rest q (λ e b. ExponentBy.stars f b) (power-sound s w rest h))
+        behind (Behind (star ∷ []) (ExponentBy r)) (ExponentBy r) c star (d ∷ s) w rest p (λ e b. b)
+        (behind Power (Behind (star ∷ []) (ExponentBy r)) d star s w rest q (λ e b. ExponentBy.stars f b) (power-sound s w rest h))
     go false q h = unpowered r (c ∷ d ∷ s) w rest h
 
 pub exponent-sound : (r : Rules) (s : List ℕ) (w : Written) (rest : List ℕ) → exponent r s ≡ found w rest → (e : List ℕ) × ExponentBy r e w × (s ≡ e ++ rest)
 unfolding exponent
 exponent-sound r [] w rest h = unpowered r [] w rest h
 exponent-sound r (c ∷ s) w rest h =
-    go ((sign c || digit c) && r .direct) (eqb c 40 && r .brackets) (eqb c 94 && r .caret) (eqb c 42 && r .stars) refl refl refl refl h
+    go ((sign c || digit c) && r .direct) (eqb c open-bracket && r .brackets) (eqb c caret && r .caret) (eqb c star && r .stars) refl refl refl refl h
   where
-    go : (a b x y : Bool) → ((sign c || digit c) && r .direct) ≡ a → (eqb c 40 && r .brackets) ≡ b → (eqb c 94 && r .caret) ≡ x → (eqb c 42 && r .stars) ≡ y
+    go : (a b x y : Bool) → ((sign c || digit c) && r .direct) ≡ a → (eqb c open-bracket && r .brackets) ≡ b → (eqb c caret && r .caret) ≡ x → (eqb c star && r .stars) ≡ y
         → pick a (mapped whole (integer (c ∷ s))) (pick b (bracketed s) (pick x (power s) (pick y (starred (c ∷ s) s) (found unwritten (c ∷ s))))) ≡ found w rest
         → Begins (ExponentBy r) (c ∷ s) w rest
     go true b x y p q o l h =
         mapped-sound whole Integer (ExponentBy r) (integer (c ∷ s)) (c ∷ s) w rest
         (λ e n i. ExponentBy.integer (and-right (sign c || digit c) (r .direct) p) i) (λ n q. integer-sound (c ∷ s) n rest q) h
     go false true x y p q o l h =
-        behind (Behind (40 ∷ []) Bracketed) (ExponentBy r) c 40 s w rest (and-left (eqb c 40) (r .brackets) q)
-        (λ e b. ExponentBy.bracketed (and-right (eqb c 40) (r .brackets) q) b) (bracketed-sound s w rest h)
+        behind (Behind (open-bracket ∷ []) Bracketed) (ExponentBy r) c open-bracket s w rest (and-left (eqb c open-bracket) (r .brackets) q)
+        (λ e b. ExponentBy.bracketed (and-right (eqb c open-bracket) (r .brackets) q) b) (bracketed-sound s w rest h)
     go false false true y p q o l h =
-        behind Power (ExponentBy r) c 94 s w rest (and-left (eqb c 94) (r .caret) o) (λ e b. ExponentBy.caret (and-right (eqb c 94) (r .caret) o) b) (power-sound s w rest h)
-    go false false false true p q o l h = starred-sound r c s w rest (and-right (eqb c 42) (r .stars) l) (and-left (eqb c 42) (r .stars) l) h
+        behind Power (ExponentBy r) c caret s w rest (and-left (eqb c caret) (r .caret) o) (λ e b. ExponentBy.caret (and-right (eqb c caret) (r .caret) o) b) (power-sound s w rest h)
+    go false false false true p q o l h = starred-sound r c s w rest (and-right (eqb c star) (r .stars) l) (and-left (eqb c star) (r .stars) l) h
     go false false false false p q o l h = unpowered r (c ∷ s) w rest h
 
 -- SPELLINGS
 
-quoted-text : (p : List ℕ) (c : ℕ) (s l t out rest : List ℕ) → c ≡ 39 → s ≡ l ++ t → t ≡ 39 ∷ rest → p ++ 39 ∷ l ++ 39 ∷ [] ≡ out → p ++ c ∷ s ≡ out ++ rest
-quoted-text p c s l t out rest e a b q = rw (← q, e, a, b, append-assoc (p ++ 39 ∷ l) (39 ∷ []) rest, append-assoc p (39 ∷ l) (39 ∷ rest))
+quoted-text : (p : List ℕ) (c : ℕ) (s l t out rest : List ℕ) → c ≡ quote → s ≡ l ++ t → t ≡ quote ∷ rest → p ++ quote ∷ l ++ quote ∷ [] ≡ out → p ++ c ∷ s ≡ out ++ rest
+quoted-text p c s l t out rest e a b q = rw (← q, e, a, b, append-assoc (p ++ quote ∷ l) (quote ∷ []) rest, append-assoc p (quote ∷ l) (quote ∷ rest))
 
 -- letters and a closing quote, after p and the first quote c
-quoted-sound : (r : Rules) (p : List ℕ) (c : ℕ) (s out rest : List ℕ) → (eqb c 39 && r .quotes) ≡ true → ((l : List ℕ) → Letters l → Quoted (p ++ 39 ∷ l ++ 39 ∷ []))
+quoted-sound : (r : Rules) (p : List ℕ) (c : ℕ) (s out rest : List ℕ) → (eqb c quote && r .quotes) ≡ true → ((l : List ℕ) → Letters l → Quoted (p ++ quote ∷ l ++ quote ∷ []))
     → quoted p s ≡ found out rest → SpellingBy r out × (p ++ c ∷ s ≡ out ++ rest)
 unfolding quoted quoted-on all
 quoted-sound r p c s out rest e make h = go (run letter s) (past letter s) (run-all letter s) (run-past letter s) h
@@ -206,19 +206,19 @@ quoted-sound r p c s out rest e make h = go (run letter s) (past letter s) (run-
     go : (l t : List ℕ) → T (all letter l) → s ≡ l ++ t → quoted-on p l t ≡ found out rest → SpellingBy r out × (p ++ c ∷ s ≡ out ++ rest)
     go [] t a q h = absurd (none-found h)
     go (d ∷ l) t a q h =
-        let m = byte-found 39 (p ++ 39 ∷ d ∷ l ++ 39 ∷ []) out t rest h in
+        let m = byte-found quote (p ++ quote ∷ d ∷ l ++ quote ∷ []) out t rest h in
         let b = both (letter d) (all letter l) a in (
-          SpellingBy.quoted (and-right (eqb c 39) (r .quotes) e) (rw (m .0) at (make (d ∷ l) (Letters.letters (b .0) (b .1)))),
-          quoted-text p c s (d ∷ l) t out rest (eqb-true c 39 (and-left (eqb c 39) (r .quotes) e)) q (m .1) (m .0),
+          SpellingBy.quoted (and-right (eqb c quote) (r .quotes) e) (rw (m .0) at (make (d ∷ l) (Letters.letters (b .0) (b .1)))),
+          quoted-text p c s (d ∷ l) t out rest (eqb-true c quote (and-left (eqb c quote) (r .quotes) e)) q (m .1) (m .0),
         )
 
 -- the letters l, or a quoted spelling that they begin
 lettered-sound : (r : Rules) (l s out rest : List ℕ) → Letters l → lettered r l s ≡ found out rest → SpellingBy r out × (l ++ s ≡ out ++ rest)
 unfolding lettered
 lettered-sound r l [] out rest d h = let same : l ≡ out = cc in (rw (← same) (SpellingBy.letters d), cc)
-lettered-sound r l (c ∷ s) out rest d h = go (eqb c 39 && r .quotes) (prefix-name l) refl refl h
+lettered-sound r l (c ∷ s) out rest d h = go (eqb c quote && r .quotes) (prefix-name l) refl refl h
   where
-    go : (x y : Bool) → (eqb c 39 && r .quotes) ≡ x → prefix-name l ≡ y
+    go : (x y : Bool) → (eqb c quote && r .quotes) ≡ x → prefix-name l ≡ y
         → pick x (pick y (quoted l s) none) (found l (c ∷ s)) ≡ found out rest → SpellingBy r out × (l ++ c ∷ s ≡ out ++ rest)
     go true true p q h = quoted-sound r l c s out rest p (λ t d. Quoted.prefixed (PrefixName.named (true→T q)) d) h
     go true false p q h = absurd (none-found h)
@@ -228,17 +228,17 @@ letters-run : (c : ℕ) (s : List ℕ) → letter c ≡ true → Letters (run le
 unfolding run
 letters-run c s e = rw e (Letters.letters (true→T e) (run-all letter s))
 
-percent-sound : (r : Rules) (c : ℕ) (s l rest : List ℕ) → (eqb c 37 && r .percent) ≡ true → found (c ∷ []) s ≡ found l rest → SpellingBy r l × (c ∷ s ≡ l ++ rest)
+percent-sound : (r : Rules) (c : ℕ) (s l rest : List ℕ) → (eqb c percent && r .percent) ≡ true → found (c ∷ []) s ≡ found l rest → SpellingBy r l × (c ∷ s ≡ l ++ rest)
 percent-sound r c s l rest e h =
     let same : c ∷ [] ≡ l = cc in
-    (rw (← same, eqb-true c 37 (and-left (eqb c 37) (r .percent) e)) (SpellingBy.percent (and-right (eqb c 37) (r .percent) e)), rw (← same) (cc))
+    (rw (← same, eqb-true c percent (and-left (eqb c percent) (r .percent) e)) (SpellingBy.percent (and-right (eqb c percent) (r .percent) e)), rw (← same) (cc))
 
 pub spelling-sound : (r : Rules) (s l rest : List ℕ) → spelling r s ≡ found l rest → SpellingBy r l × (s ≡ l ++ rest)
 unfolding spelling
 spelling-sound r [] l rest h = absurd (none-found h)
-spelling-sound r (c ∷ s) l rest h = go (letter c) (eqb c 37 && r .percent) (eqb c 39 && r .quotes) refl refl refl h
+spelling-sound r (c ∷ s) l rest h = go (letter c) (eqb c percent && r .percent) (eqb c quote && r .quotes) refl refl refl h
   where
-    go : (x y z : Bool) → letter c ≡ x → (eqb c 37 && r .percent) ≡ y → (eqb c 39 && r .quotes) ≡ z
+    go : (x y z : Bool) → letter c ≡ x → (eqb c percent && r .percent) ≡ y → (eqb c quote && r .quotes) ≡ z
         → pick x (lettered r (run letter (c ∷ s)) (past letter (c ∷ s))) (pick y (found (c ∷ []) s) (pick z (quoted [] s) none)) ≡ found l rest
         → SpellingBy r l × (c ∷ s ≡ l ++ rest)
     go true y z p q o h =
@@ -251,22 +251,22 @@ spelling-sound r (c ∷ s) l rest h = go (letter c) (eqb c 37 && r .percent) (eq
 -- FACTORS
 
 -- more zeros after a plain factor
-plain-zeros : (x z : List ℕ) (k : ℕ) → Plain x k → all (λ d. eqb d 48) z ≡ true → Plain (x ++ z) (k + length z)
+plain-zeros : (x z : List ℕ) (k : ℕ) → Plain x k → all (λ d. eqb d digit-zero) z ≡ true → Plain (x ++ z) (k + length z)
 unfolding all
 plain-zeros x [] k p a = let e : k + 0 ≡ k = omega arith in rw (e, append-nil x) p
 plain-zeros x (c ∷ z) k p a =
     let e : k + suc (length z) ≡ suc k + length z = omega arith in
-    let b : c ≡ 48 = eqb-true c 48 (and-left (eqb c 48) (all (λ d. eqb d 48) z) a) in
-    let w = plain-zeros (x ++ 48 ∷ []) z (suc k) (Plain.ten-times p) (and-right (eqb c 48) (all (λ d. eqb d 48) z) a) in
-    rw (e, b) (rw (append-assoc x (48 ∷ []) z) at w)
+    let b : c ≡ 48 = eqb-true c digit-zero (and-left (eqb c digit-zero) (all (λ d. eqb d digit-zero) z) a) in
+    let w = plain-zeros (x ++ digit-zero ∷ []) z (suc k) (Plain.ten-times p) (and-right (eqb c digit-zero) (all (λ d. eqb d digit-zero) z) a) in
+    rw (e, b) (rw (append-assoc x (digit-zero ∷ []) z) at w)
 
 plain-sound : (ds : List ℕ) → plain-digits ds ≡ true → Plain ds (length ds - 1)
 unfolding plain-digits
 plain-sound [] e = absurd (false-true e)
 plain-sound (c ∷ s) e =
-    let b : c ≡ 49 = eqb-true c 49 (and-left (eqb c 49) (all (λ d. eqb d 48) s) e) in
+    let b : c ≡ 49 = eqb-true c digit-one (and-left (eqb c digit-one) (all (λ d. eqb d digit-zero) s) e) in
     let k : suc (length s) - 1 ≡ 0 + length s = omega arith in
-    rw (k, b) (plain-zeros (49 ∷ []) s 0 Plain.one (and-right (eqb c 49) (all (λ d. eqb d 48) s) e))
+    rw (k, b) (plain-zeros (digit-one ∷ []) s 0 Plain.one (and-right (eqb c digit-one) (all (λ d. eqb d digit-zero) s) e))
 
 -- the digits ds are the factor, and nothing more is found after them
 plain-factor-sound : (r : Rules) (ds s : List ℕ) (f : Factor) (rest : List ℕ) → plain-factor r ds s ≡ found f rest → Begins (Behind ds (FactorBy r)) s f rest
@@ -284,52 +284,52 @@ wrapped-sound : (r : Rules) (Q : List ℕ → Factor → Type 0) → ((e : List 
     → (s : List ℕ) (f : Factor) (rest : List ℕ) → wrapped r s ≡ found f rest → Begins Q s f rest
 unfolding wrapped
 wrapped-sound r Q make [] f rest h = absurd (none-found h)
-wrapped-sound r Q make (c ∷ s) f rest h = go (eqb c 40 && r .wrapped) refl h
+wrapped-sound r Q make (c ∷ s) f rest h = go (eqb c open-bracket && r .wrapped) refl h
   where
-    go : (b : Bool) → (eqb c 40 && r .wrapped) ≡ b → pick b (closed ten-to (integer s)) (mapped ten-to (integer (c ∷ s))) ≡ found f rest → Begins Q (c ∷ s) f rest
+    go : (b : Bool) → (eqb c open-bracket && r .wrapped) ≡ b → pick b (closed ten-to (integer s)) (mapped ten-to (integer (c ∷ s))) ≡ found f rest → Begins Q (c ∷ s) f rest
     go true e h =
-        behind (Behind (40 ∷ []) Q) Q c 40 s f rest (and-left (eqb c 40) (r .wrapped) e) (λ e q. q)
-        (closed-sound ten-to Integer (Behind (40 ∷ []) Q) (integer s) s f rest
-        (λ x n i. make (40 ∷ x ++ 41 ∷ []) n (WrappedBy.bracketed (and-right (eqb c 40) (r .wrapped) e) i)) (λ n t q. integer-sound s n t q) h)
+        behind (Behind (open-bracket ∷ []) Q) Q c open-bracket s f rest (and-left (eqb c open-bracket) (r .wrapped) e) (λ e q. q)
+        (closed-sound ten-to Integer (Behind (open-bracket ∷ []) Q) (integer s) s f rest
+        (λ x n i. make (open-bracket ∷ x ++ close-bracket ∷ []) n (WrappedBy.bracketed (and-right (eqb c open-bracket) (r .wrapped) e) i)) (λ n t q. integer-sound s n t q) h)
     go false e h = mapped-sound ten-to Integer Q (integer (c ∷ s)) (c ∷ s) f rest (λ x n i. make x n (WrappedBy.bare i)) (λ n q. integer-sound (c ∷ s) n rest q) h
 
 -- two stars after the digits 10; c is the first star
-starred-factor-sound : (r : Rules) (c : ℕ) (s : List ℕ) (f : Factor) (rest : List ℕ) → eqb c 42 ≡ true → starred-factor r s ≡ found f rest
-    → Begins (Behind (49 ∷ 48 ∷ []) (FactorBy r)) (c ∷ s) f rest
+starred-factor-sound : (r : Rules) (c : ℕ) (s : List ℕ) (f : Factor) (rest : List ℕ) → eqb c star ≡ true → starred-factor r s ≡ found f rest
+    → Begins (Behind (digit-one ∷ digit-zero ∷ []) (FactorBy r)) (c ∷ s) f rest
 unfolding starred-factor
 starred-factor-sound r c [] f rest p h = absurd (none-found h)
-starred-factor-sound r c (d ∷ s) f rest p h = go (eqb d 42) refl h
+starred-factor-sound r c (d ∷ s) f rest p h = go (eqb d star) refl h
   where
-    go : (b : Bool) → eqb d 42 ≡ b → pick b (wrapped r s) none ≡ found f rest → Begins (Behind (49 ∷ 48 ∷ []) (FactorBy r)) (c ∷ d ∷ s) f rest
+    go : (b : Bool) → eqb d star ≡ b → pick b (wrapped r s) none ≡ found f rest → Begins (Behind (digit-one ∷ digit-zero ∷ []) (FactorBy r)) (c ∷ d ∷ s) f rest
     go true q h =
-        behind (Behind (49 ∷ 48 ∷ 42 ∷ []) (FactorBy r)) (Behind (49 ∷ 48 ∷ []) (FactorBy r)) c 42 (d ∷ s) f rest p (λ e b. b)
-        (behind (Behind (49 ∷ 48 ∷ 42 ∷ 42 ∷ []) (FactorBy r)) (Behind (49 ∷ 48 ∷ 42 ∷ []) (FactorBy r)) d 42 s f rest q (λ e b. b)
-        (wrapped-sound r (Behind (49 ∷ 48 ∷ 42 ∷ 42 ∷ []) (FactorBy r)) (λ e n w. FactorBy.stars w) s f rest h))
+        behind (Behind (digit-one ∷ digit-zero ∷ star ∷ []) (FactorBy r)) (Behind (digit-one ∷ digit-zero ∷ []) (FactorBy r)) c star (d ∷ s) f rest p (λ e b. b)
+        (behind (Behind (digit-one ∷ digit-zero ∷ star ∷ star ∷ []) (FactorBy r)) (Behind (digit-one ∷ digit-zero ∷ star ∷ []) (FactorBy r)) d star s f rest q (λ e b. b)
+        (wrapped-sound r (Behind (digit-one ∷ digit-zero ∷ star ∷ star ∷ []) (FactorBy r)) (λ e n w. FactorBy.stars w) s f rest h))
     go false q h = absurd (none-found h)
 
 -- what is found after the digits 10
-ten-factor-sound : (r : Rules) (s : List ℕ) (f : Factor) (rest : List ℕ) → ten-factor r (49 ∷ 48 ∷ []) s ≡ found f rest → Begins (Behind (49 ∷ 48 ∷ []) (FactorBy r)) s f rest
+ten-factor-sound : (r : Rules) (s : List ℕ) (f : Factor) (rest : List ℕ) → ten-factor r (digit-one ∷ digit-zero ∷ []) s ≡ found f rest → Begins (Behind (digit-one ∷ digit-zero ∷ []) (FactorBy r)) s f rest
 unfolding ten-factor
-ten-factor-sound r [] f rest h = plain-factor-sound r (49 ∷ 48 ∷ []) [] f rest h
-ten-factor-sound r (c ∷ s) f rest h = go (sign c && r .signed) (eqb c 94 && r .caret) (eqb c 42) refl refl refl h
+ten-factor-sound r [] f rest h = plain-factor-sound r (digit-one ∷ digit-zero ∷ []) [] f rest h
+ten-factor-sound r (c ∷ s) f rest h = go (sign c && r .signed) (eqb c caret && r .caret) (eqb c star) refl refl refl h
   where
-    go : (x y z : Bool) → (sign c && r .signed) ≡ x → (eqb c 94 && r .caret) ≡ y → eqb c 42 ≡ z
-        → pick x (mapped ten-to (integer (c ∷ s))) (pick y (wrapped r s) (pick z (starred-factor r s) (plain-factor r (49 ∷ 48 ∷ []) (c ∷ s)))) ≡ found f rest
-        → Begins (Behind (49 ∷ 48 ∷ []) (FactorBy r)) (c ∷ s) f rest
+    go : (x y z : Bool) → (sign c && r .signed) ≡ x → (eqb c caret && r .caret) ≡ y → eqb c star ≡ z
+        → pick x (mapped ten-to (integer (c ∷ s))) (pick y (wrapped r s) (pick z (starred-factor r s) (plain-factor r (digit-one ∷ digit-zero ∷ []) (c ∷ s)))) ≡ found f rest
+        → Begins (Behind (digit-one ∷ digit-zero ∷ []) (FactorBy r)) (c ∷ s) f rest
     go true y z p q o h =
-        mapped-sound ten-to Signed (Behind (49 ∷ 48 ∷ []) (FactorBy r)) (integer (c ∷ s)) (c ∷ s) f rest
+        mapped-sound ten-to Signed (Behind (digit-one ∷ digit-zero ∷ []) (FactorBy r)) (integer (c ∷ s)) (c ∷ s) f rest
         (λ e n i. FactorBy.signed (and-right (sign c) (r .signed) p) i) (λ n q. signed-sound c s n rest (and-left (sign c) (r .signed) p) q) h
     go false true z p q o h =
-        behind (Behind (49 ∷ 48 ∷ 94 ∷ []) (FactorBy r)) (Behind (49 ∷ 48 ∷ []) (FactorBy r)) c 94 s f rest (and-left (eqb c 94) (r .caret) q) (λ e b. b)
-        (wrapped-sound r (Behind (49 ∷ 48 ∷ 94 ∷ []) (FactorBy r)) (λ e n w. FactorBy.caret (and-right (eqb c 94) (r .caret) q) w) s f rest h)
+        behind (Behind (digit-one ∷ digit-zero ∷ caret ∷ []) (FactorBy r)) (Behind (digit-one ∷ digit-zero ∷ []) (FactorBy r)) c caret s f rest (and-left (eqb c caret) (r .caret) q) (λ e b. b)
+        (wrapped-sound r (Behind (digit-one ∷ digit-zero ∷ caret ∷ []) (FactorBy r)) (λ e n w. FactorBy.caret (and-right (eqb c caret) (r .caret) q) w) s f rest h)
     go false false true p q o h = starred-factor-sound r c s f rest o h
-    go false false false p q o h = plain-factor-sound r (49 ∷ 48 ∷ []) (c ∷ s) f rest h
+    go false false false p q o h = plain-factor-sound r (digit-one ∷ digit-zero ∷ []) (c ∷ s) f rest h
 
-ten-digits : (ds : List ℕ) → ten ds ≡ true → ds ≡ 49 ∷ 48 ∷ []
+ten-digits : (ds : List ℕ) → ten ds ≡ true → ds ≡ digit-one ∷ digit-zero ∷ []
 unfolding ten
 ten-digits [] e = absurd (false-true e)
 ten-digits (c ∷ []) e = absurd (false-true e)
-ten-digits (c ∷ d ∷ []) e = cc (eqb-true c 49 (and-left (eqb c 49) (eqb d 48) e), eqb-true d 48 (and-right (eqb c 49) (eqb d 48) e))
+ten-digits (c ∷ d ∷ []) e = cc (eqb-true c digit-one (and-left (eqb c digit-one) (eqb d digit-zero) e), eqb-true d digit-zero (and-right (eqb c digit-one) (eqb d digit-zero) e))
 ten-digits (c ∷ d ∷ x ∷ s) e = absurd (false-true e)
 
 pub factor-sound : (r : Rules) (s : List ℕ) (f : Factor) (rest : List ℕ) → factor r s ≡ found f rest → (x : List ℕ) × FactorBy r x f × (s ≡ x ++ rest)
@@ -340,5 +340,5 @@ factor-sound r s f rest h = go (run digit s) (past digit s) (ten (run digit s)) 
     on ds t q w = (ds ++ w .0, w .1, join-texts s t rest ds (w .0) q (w .2))
 
     go : (ds t : List ℕ) (b : Bool) → ten ds ≡ b → s ≡ ds ++ t → pick b (ten-factor r ds t) (plain-factor r ds t) ≡ found f rest → Begins (FactorBy r) s f rest
-    go ds t true e q h = let z = ten-digits ds e in on (49 ∷ 48 ∷ []) t (rw z at q) (ten-factor-sound r t f rest (rw z at h))
+    go ds t true e q h = let z = ten-digits ds e in on (digit-one ∷ digit-zero ∷ []) t (rw z at q) (ten-factor-sound r t f rest (rw z at h))
     go ds t false e q h = on ds t q (plain-factor-sound r ds t f rest h)

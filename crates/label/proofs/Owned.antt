@@ -12,7 +12,7 @@ use lib.Seq.{drop-at}
 use borrow.Author.Tests.{eqb-true, eq-eqb}
 use Rattle.label.specs.declared.Rules.{Rules}
 use Rattle.label.specs.Notations.{member}
-use Rattle.label.specs.Bytes.{bytes, same, letter, all, past}
+use Rattle.label.specs.Bytes.{bytes, same, letter, all, past, percent, quote}
 use Rattle.label.specs.Choice.{pick}
 use Rattle.label.specs.Prefixes.{Prefix, prefix, prefixes, placed, prefix-named, is-some, prefix-name}
 use Rattle.label.specs.Units.{Name, KnownUnit, bare, ten-to, units, unit-at}
@@ -210,7 +210,7 @@ all-right p (c ∷ a) b t = all-right p a b (both (p c) (all p (a ++ b)) t .1)
 -- letters have no quote
 letter-unquoted : (c : ℕ) → T (letter c) → T (unquoted c)
 unfolding letter
-letter-unquoted c t = rw (differs letter c 39 t refl) tt
+letter-unquoted c t = rw (differs letter c quote t refl) tt
 
 pub letters-unquoted : {l : List ℕ} → Letters l → T (all unquoted l)
 letters-unquoted {l} d = all-weaker letter unquoted letter-unquoted l (letters-all d)
@@ -248,7 +248,7 @@ letters-prefixed p {l} d =
 pub quoted-symbol : (m : ℕ) (p l : List ℕ) → T (all unquoted p) → Letters l → symbol m (p ++ in-quotes l) ≡ unknown (prefix-named p) l
 unfolding symbol by-quote
 quoted-symbol m p l t d =
-    rw (run-of unquoted p (in-quotes l) t (Stops.other refl), past-of unquoted p (in-quotes l) t (Stops.other refl), run-of unquoted l (39 ∷ []) (letters-unquoted d) (Stops.other refl))
+    rw (run-of unquoted p (in-quotes l) t (Stops.other refl), past-of unquoted p (in-quotes l) t (Stops.other refl), run-of unquoted l (quote ∷ []) (letters-unquoted d) (Stops.other refl))
 
 -- what a quoted spelling is read as
 pub record QuotedAs (m : ℕ) (s : List ℕ) : Type 0 where
@@ -274,10 +274,10 @@ unfolding prefix-name
 quoted-as m (Quoted.quoted {l = l} d) = quoted-by m (in-quotes l) none d no-name refl
 quoted-as m (Quoted.prefixed {p = p} {l = l} (PrefixName.named t) d) = go (prefix-named p) refl t
   where
-    go : (o : Option ℕ) → prefix-named p ≡ o → T (is-some o) → QuotedAs m (p ++ 39 ∷ l ++ 39 ∷ [])
+    go : (o : Option ℕ) → prefix-named p ≡ o → T (is-some o) → QuotedAs m (p ++ quote ∷ l ++ quote ∷ [])
     go (some i) e t =
         let q = prefix-owned p i e in
-        quoted-by m (p ++ 39 ∷ l ++ 39 ∷ []) (some i) d (sym (ap prefix-named q) ∙ e) (append-assoc p (39 ∷ l) (39 ∷ []) ∙ ap (λ (z : List ℕ). z ++ in-quotes l) q)
+        quoted-by m (p ++ quote ∷ l ++ quote ∷ []) (some i) d (sym (ap prefix-named q) ∙ e) (append-assoc p (quote ∷ l) (quote ∷ []) ∙ ap (λ (z : List ℕ). z ++ in-quotes l) q)
     go none e t = absurd t
 
 -- WHAT IS KNOWN OF A UNIT'S LETTERS IN ITS SOURCE
@@ -305,7 +305,7 @@ owned-sourced {n} t (OwnedBy.by-name {p = p} {u = u} r e f h) =
     (Sourced.letter-name n (unit-owned n r u f) (all-letters r (all-right letter (prefix-letters p) r (rw e at t)) h))
 owned-sourced t (OwnedBy.by-letters {p = p} {l = l} e f h) = Sourced.no-unit-name (all-letters l (all-right letter (prefix-letters p) l (rw e at t)) h) f
 
-percent-sourced : Sourced (own-letters (symbol 3 (37 ∷ [])) (37 ∷ [])) (symbol 3 (37 ∷ []))
+percent-sourced : Sourced (own-letters (symbol 3 (percent ∷ [])) (percent ∷ [])) (symbol 3 (percent ∷ []))
 unfolding symbols-compute own-letters
 percent-sourced = Sourced.bare-name 3 refl
 
@@ -329,7 +329,7 @@ only-three (n ∷ k ∷ ns) = false
 
 percent-row : List Name → Bool
 percent-row [] = false
-percent-row (x ∷ []) = same (x .letters) (37 ∷ []) && only-three (x .known-in)
+percent-row (x ∷ []) = same (x .letters) (percent ∷ []) && only-three (x .known-in)
 percent-row (x ∷ y ∷ xs) = false
 
 rows-spelled : List KnownUnit → Bool
@@ -349,7 +349,7 @@ row-spelled (u ∷ us) (suc i) d t h = row-spelled us i d (both (all-lettered (u
 -- a name of a row
 pub data Spelt (m : ℕ) (xs : List Name) (l : List ℕ) : Type 0 where
   in-letters : Letters l → Spelt m xs l
-  in-percent : m ≡ 3 → l ≡ 37 ∷ [] → ((n : ℕ) (k : List ℕ) → has-name n k xs ≡ true → k ≡ 37 ∷ []) → Spelt m xs l
+  in-percent : m ≡ 3 → l ≡ percent ∷ [] → ((n : ℕ) (k : List ℕ) → has-name n k xs ≡ true → k ≡ percent ∷ []) → Spelt m xs l
 
 lettered-name : (m : ℕ) (l : List ℕ) (xs : List Name) → T (all-lettered xs) → has-name m l xs ≡ true → Letters l
 unfolding all-lettered has-name
@@ -387,8 +387,8 @@ percent-name : (m : ℕ) (l : List ℕ) (xs : List Name) → T (percent-row xs) 
 unfolding percent-row
 percent-name m l [] t h = absurd t
 percent-name m l (x ∷ []) t h =
-    let w = both (same (x .letters) (37 ∷ [])) (only-three (x .known-in)) t in
-    let q = same-is (x .letters) (37 ∷ []) (T→true (same (x .letters) (37 ∷ [])) (w .0)) in
+    let w = both (same (x .letters) (percent ∷ [])) (only-three (x .known-in)) t in
+    let q = same-is (x .letters) (percent ∷ []) (T→true (same (x .letters) (percent ∷ [])) (w .0)) in
     let n = single-name m l x h in
     Spelt.in-percent (three-member m (x .known-in) (w .1) (n .1)) (n .0 ∙ q) (λ i k g. single-name i k x g .0 ∙ q)
 percent-name m l (x ∷ y ∷ xs) t h = absurd t
@@ -402,7 +402,7 @@ name-spelt m u l h = go (all-lettered (unit-at u .names)) (percent-row (unit-at 
     go false true e f t = percent-name m l (unit-at u .names) (true→T f) h
     go false false e f t = absurd t
 
-percent-no-letter : Letters (37 ∷ []) → ⊥
+percent-no-letter : Letters (percent ∷ []) → ⊥
 unfolding all letter
 percent-no-letter d = letters-all d
 

@@ -5,6 +5,7 @@ use mathlib.Core.Path.{_≡_, refl, ap, sym, _∙_}
 use mathlib.Core.List.{List, [], _∷_, _++_, append-assoc}
 use lib.ListN.{length, take, drop, length-append}
 use lib.Seq.{take-at, drop-at}
+use Rattle.label.specs.Bytes.{close-bracket, open-bracket, slash}
 use Rattle.label.specs.declared.Rules.{Rules}
 use Rattle.label.specs.Lexical.{Factor, Part, turned-all, Kind}
 use Rattle.label.proofs.General.{G, LabelBy}
@@ -53,7 +54,7 @@ chain v w = rw (v .is) (behind (v .front) w)
 -- what follows in a derivation ends the text
 suffix : {r : Rules} {x : Kind} {s t : List ℕ} {ps : List Part} → G r x s t ps → Suffix s t
 suffix (G.unit {l = l} {e = e} {t = t} d x) = record { front = l ++ e; is = sym (append-assoc l e t) }
-suffix (G.group d) = behind (40 ∷ []) (chain (suffix d) (behind (41 ∷ []) whole))
+suffix (G.group d) = behind (open-bracket ∷ []) (chain (suffix d) (behind (close-bracket ∷ []) whole))
   where
     whole : {t : List ℕ} → Suffix t t
     whole = record { front = []; is = refl }
@@ -63,26 +64,26 @@ suffix G.done = record { front = []; is = refl }
 suffix (G.times {j = j} o d m) = behind j (chain (suffix d) (suffix m))
 suffix (G.over {j = j} o d m) = behind j (chain (suffix d) (suffix m))
 suffix (G.plain d) = suffix d
-suffix (G.divided f d i) = chain (suffix d) (behind (47 ∷ []) (suffix i))
+suffix (G.divided f d i) = chain (suffix d) (behind (slash ∷ []) (suffix i))
 
 later : {s t : List ℕ} {ps : List Part} → Suffix s t → AllStand t ps → AllStand s ps
 later w ds = rw (w .is) (further (w .front) ds)
 
 stand : {r : Rules} {x : Kind} {s t : List ℕ} {ps : List Part} → G r x s t ps → AllStand s ps
 stand (G.unit {l = l} {e = e} {t = t} d x) = AllStand.some (record { before = []; after = e ++ t; is = refl; counted = refl }) AllStand.none
-stand (G.group d) = further (40 ∷ []) (stand d)
+stand (G.group d) = further (open-bracket ∷ []) (stand d)
 stand (G.first d m) = joined (stand d) (later (suffix d) (stand m))
 stand (G.under {j = j} o d m) = further j (joined (turned (stand d)) (later (suffix d) (stand m)))
 stand G.done = AllStand.none
 stand (G.times {j = j} o d m) = further j (joined (stand d) (later (suffix d) (stand m)))
 stand (G.over {j = j} o d m) = further j (joined (turned (stand d)) (later (suffix d) (stand m)))
 stand (G.plain d) = stand d
-stand (G.divided f d i) = joined (stand d) (later (suffix d) (further (47 ∷ []) (turned (stand i))))
+stand (G.divided f d i) = joined (stand d) (later (suffix d) (further (slash ∷ []) (turned (stand i))))
 
 pub label-stands : {r : Rules} {s : List ℕ} {f : Factor} {ps : List Part} → LabelBy r s f ps → AllStand s ps
 label-stands LabelBy.empty = AllStand.none
 label-stands (LabelBy.plain u d) = stand d
-label-stands (LabelBy.under f d) = further (47 ∷ []) (turned (stand d))
+label-stands (LabelBy.under f d) = further (slash ∷ []) (turned (stand d))
 label-stands (LabelBy.factored {x = x} {g = g} l f w d) = further x (further g (stand d))
 
 -- the bytes at that place are the spelling

@@ -7,6 +7,7 @@ use mathlib.Core.Option.{Option, none as nothing, some}
 use lib.Dec.{eqb}
 use lib.ListN.{length}
 use borrow.Author.Tests.{eqb-true}
+use Rattle.label.specs.Bytes.{close-bracket, open-bracket, slash}
 use Rattle.label.specs.declared.Rules.{Rules}
 use Rattle.label.specs.Choice.{pick}
 use Rattle.label.specs.Lexical.{Written, Part, part, turned-all, Kind, item, more, product, quotient}
@@ -69,13 +70,13 @@ module _ (r : Rules) (b : Bool) where
   item-sound : (f : List ℕ → Found (List Part)) → Sound r (inside r) b f → Sound r item b (λ s. item-by r b f s)
   unfolding item-by item-at
   item-sound f fs [] ps t h = absurd (none-found h)
-  item-sound f fs (c ∷ s) ps t h = go (eqb c 40) refl h
+  item-sound f fs (c ∷ s) ps t h = go (eqb c open-bracket) refl h
     where
-      go : (d : Bool) → eqb c 40 ≡ d → item-at d r b f (c ∷ s) s ≡ found ps t → Derived r item b (c ∷ s) ps t
+      go : (d : Bool) → eqb c open-bracket ≡ d → item-at d r b f (c ∷ s) s ≡ found ps t → Derived r item b (c ∷ s) ps t
       go true e h =
           let w = closed-found (λ qs. qs) (f s) ps t h in
-          let i = fs s (w .value) (41 ∷ t) (w .one) in
-          rw (eqb-true c 40 e) (record { parts = i .parts; derivation = G.group (i .derivation); signed = sym (w .is) ∙ i .signed })
+          let i = fs s (w .value) (close-bracket ∷ t) (w .one) in
+          rw (eqb-true c open-bracket e) (record { parts = i .parts; derivation = G.group (i .derivation); signed = sym (w .is) ∙ i .signed })
       go false e h = unit-sound r b (c ∷ s) ps t h
 
   module _ (f : Bool → List ℕ → Found (List Part)) (g : Bool → List ℕ → Found (List Part))
@@ -153,7 +154,7 @@ module _ (r : Rules) (b : Bool) where
           let q : u ≡ t = cc in
           record { parts = i .parts; derivation = rw q at (G.plain (i .derivation)); signed = sym p ∙ i .signed }
 
-      under : (qs : List Part) (u : List ℕ) → r .each ≡ false → Derived r product b s qs (47 ∷ u) → mapped (λ rs. qs ++ rs) (g u) ≡ found ps t → Derived r quotient b s ps t
+      under : (qs : List Part) (u : List ℕ) → r .each ≡ false → Derived r product b s qs (slash ∷ u) → mapped (λ rs. qs ++ rs) (g u) ≡ found ps t → Derived r quotient b s ps t
       under qs u e i h =
           let w = mapped-found _ (g u) ps t h in
           let j = gs u (w .value) t (w .one) in
@@ -166,11 +167,11 @@ module _ (r : Rules) (b : Bool) where
 
       go : (qs : List Part) (u : List ℕ) → Derived r product b s qs u → quotient-on r g qs u ≡ found ps t → Derived r quotient b s ps t
       go qs [] i h = alone qs [] i h
-      go qs (c ∷ u) i h = at (eqb c 47) (r .each) refl refl h
+      go qs (c ∷ u) i h = at (eqb c slash) (r .each) refl refl h
         where
-          at : (x y : Bool) → eqb c 47 ≡ x → r .each ≡ y → pick (x && not y) (mapped (λ rs. qs ++ rs) (g u)) (found qs (c ∷ u)) ≡ found ps t → Derived r quotient b s ps t
+          at : (x y : Bool) → eqb c slash ≡ x → r .each ≡ y → pick (x && not y) (mapped (λ rs. qs ++ rs) (g u)) (found qs (c ∷ u)) ≡ found ps t → Derived r quotient b s ps t
           at true true p q h = alone qs (c ∷ u) i h
-          at true false p q h = under qs u q (rw (eqb-true c 47 p) at i) h
+          at true false p q h = under qs u q (rw (eqb-true c slash p) at i) h
           at false y p q h = alone qs (c ∷ u) i h
 
 pub read-sound : (r : Rules) (k : ℕ) (x : Kind) (b : Bool) → Sound r x b (λ s. read r k x b s)

@@ -11,7 +11,7 @@ use lib.IntN.{natAbs}
 use borrow.Author.Tests.{eqb-true, eq-eqb}
 use Rattle.label.specs.declared.Rules.{Rules}
 use Rattle.label.specs.declared.Exponent.{Exponent}
-use Rattle.label.specs.Bytes.{admitted, all, same}
+use Rattle.label.specs.Bytes.{admitted, all, same, close-bracket, open-bracket, quote, slash}
 use Rattle.label.specs.Choice.{pick}
 use Rattle.label.specs.Notations.{member}
 use Rattle.label.specs.Prefixes.{prefix-named, prefix-name}
@@ -57,7 +57,7 @@ unfolding all quiet admitted
 sign-quiet true = tt
 sign-quiet false = tt
 
-slash-quiet : (s : List ℕ) → T (all quiet s) → T (all quiet (47 ∷ s))
+slash-quiet : (s : List ℕ) → T (all quiet s) → T (all quiet (slash ∷ s))
 unfolding all quiet admitted
 slash-quiet s t = t
 
@@ -83,7 +83,7 @@ module _ {y : Style} {r : Rules} (v : Suits y r) (b : Bool) {e p q : ℕ} (w : L
   numeral-quiet = all-append quiet (sign false b) (figures p) (sign-quiet b) (unsigned-quiet (numerator-of .unsigned))
 
   whole-read : Lowered e p 1 → (x : Bool) → (y .wrapped && b) ≡ x
-      → PowerRead r (record { 0 = signed b e }) (y .raise ++ pick x (40 ∷ (sign false b ++ figures p) ++ 41 ∷ []) (sign false b ++ figures p))
+      → PowerRead r (record { 0 = signed b e }) (y .raise ++ pick x (open-bracket ∷ (sign false b ++ figures p) ++ close-bracket ∷ []) (sign false b ++ figures p))
   whole-read o true h = record {
     power = whole (record { negative = b; digits = figures p });
     derived = v .brackets (wide (y .wrapped) b (y .fractions) h) (Bracketed.an-integer (integer-by b (numerator-of .unsigned)));
@@ -112,9 +112,9 @@ module _ {y : Style} {r : Rules} (v : Suits y r) (b : Bool) {e p q : ℕ} (w : L
       wide true = refl
       wide false = h
 
-      brackets : Fine (40 ∷ (sign false b ++ figures p) ++ 47 ∷ figures q ++ 41 ∷ [])
-      brackets = fine-brackets ((sign false b ++ figures p) ++ 47 ∷ figures q)
-          (all-append quiet (sign false b ++ figures p) (47 ∷ figures q) numeral-quiet (slash-quiet (figures q) (unsigned-quiet (denominator-of .unsigned))))
+      brackets : Fine (open-bracket ∷ (sign false b ++ figures p) ++ slash ∷ figures q ++ close-bracket ∷ [])
+      brackets = fine-brackets ((sign false b ++ figures p) ++ slash ∷ figures q)
+          (all-append quiet (sign false b ++ figures p) (slash ∷ figures q) numeral-quiet (slash-quiet (figures q) (unsigned-quiet (denominator-of .unsigned))))
 
   power-read : (t : List ℕ) → power-text y b p q ≡ some t → PowerRead r (record { 0 = signed b e }) t
   unfolding power-text
@@ -170,7 +170,7 @@ quoted-read m none l f d e = record { derived = SpellingBy.quoted f (Quoted.quot
 quoted-read m (some i) l f d e =
     let n : PrefixName (prefix-letters (some i)) = PrefixName.named {p = prefix-letters (some i)} (rw e tt) in
     record {
-      derived = SpellingBy.quoted f (rw (append-assoc (prefix-letters (some i)) (39 ∷ l) (39 ∷ [])) at (Quoted.prefixed n d));
+      derived = SpellingBy.quoted f (rw (append-assoc (prefix-letters (some i)) (quote ∷ l) (quote ∷ [])) at (Quoted.prefixed n d));
       is = quoted-symbol m (prefix-letters (some i)) l (prefix-unquoted (some i)) d ∙ ap (λ (q : Option ℕ). unknown q l) e;
     }
 

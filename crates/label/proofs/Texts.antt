@@ -7,7 +7,7 @@ use mathlib.Core.List.{List, [], _∷_, _++_, append-assoc, append-nil}
 use lib.Dec.{T, eqb, leb}
 use borrow.Author.Tests.{le-leb, leb-true}
 use Rattle.label.specs.declared.Rules.{Rules}
-use Rattle.label.specs.Bytes.{letter, digit, admitted, all}
+use Rattle.label.specs.Bytes.{letter, digit, admitted, all, close-bracket, open-bracket, quote}
 use Rattle.label.specs.Lexical.{Letters, Quoted, Unsigned, quoted, prefixed}
 use Rattle.label.specs.Limits.{deepest-from, deepest}
 use Rattle.label.proofs.Basics.{both, T-and, differs, digit-bounds, nonzero-digit, true→T}
@@ -18,7 +18,7 @@ use Rattle.label.proofs.LexComplete.{prefix-letters}
 
 -- admitted, and no bracket
 unfoldable pub quiet : ℕ → Bool
-quiet c = admitted c && (not (eqb c 40) && not (eqb c 41))
+quiet c = admitted c && (not (eqb c open-bracket) && not (eqb c close-bracket))
 
 pub all-append : (p : ℕ → Bool) (a b : List ℕ) → T (all p a) → T (all p b) → T (all p (a ++ b))
 unfolding all
@@ -31,9 +31,9 @@ all-weaker p q h [] t = tt
 all-weaker p q h (c ∷ s) t = let w = both (p c) (all p s) t in T-and (q c) (all q s) (h c (w .0)) (all-weaker p q h s (w .1))
 
 -- a class of bytes from 32 to 126 that has no bracket
-class-quiet : (p : ℕ → Bool) (c : ℕ) → T (p c) → p 40 ≡ false → p 41 ≡ false → 32 ≤ c → c ≤ 126 → T (quiet c)
+class-quiet : (p : ℕ → Bool) (c : ℕ) → T (p c) → p open-bracket ≡ false → p close-bracket ≡ false → 32 ≤ c → c ≤ 126 → T (quiet c)
 unfolding quiet admitted
-class-quiet p c t e f l h = rw (le-leb 32 c l, le-leb c 126 h, differs p c 40 t e, differs p c 41 t f) tt
+class-quiet p c t e f l h = rw (le-leb 32 c l, le-leb c 126 h, differs p c open-bracket t e, differs p c close-bracket t f) tt
 
 letter-bounds : (c : ℕ) → T (letter c) → (32 ≤ c) × (c ≤ 126)
 unfolding letter
@@ -61,13 +61,13 @@ unfolding all
 unsigned-quiet (Unsigned.unsigned {c = c} {s = s} t a) =
     T-and (quiet c) (all quiet s) (digit-quiet c (true→T (nonzero-digit c t))) (all-weaker digit quiet digit-quiet s a)
 
-pub in-quotes-quiet : {l : List ℕ} → Letters l → T (all quiet (39 ∷ l ++ 39 ∷ []))
+pub in-quotes-quiet : {l : List ℕ} → Letters l → T (all quiet (quote ∷ l ++ quote ∷ []))
 unfolding all quiet admitted
-in-quotes-quiet {l} d = all-append quiet l (39 ∷ []) (letters-quiet d) tt
+in-quotes-quiet {l} d = all-append quiet l (quote ∷ []) (letters-quiet d) tt
 
 quoted-quiet : {l : List ℕ} → Quoted l → T (all quiet l)
 quoted-quiet (quoted d) = in-quotes-quiet d
-quoted-quiet (prefixed {p = p} {l = l} n d) = rw (append-assoc p (39 ∷ l) (39 ∷ [])) (all-append quiet p (39 ∷ l ++ 39 ∷ []) (letters-quiet (prefix-letters n)) (in-quotes-quiet d))
+quoted-quiet (prefixed {p = p} {l = l} n d) = rw (append-assoc p (quote ∷ l) (quote ∷ [])) (all-append quiet p (quote ∷ l ++ quote ∷ []) (letters-quiet (prefix-letters n)) (in-quotes-quiet d))
 
 pub spelling-quiet : {r : Rules} {l : List ℕ} → SpellingBy r l → T (all quiet l)
 unfolding all quiet admitted
@@ -82,11 +82,11 @@ unfolding deepest-from
 deepest-least d [] = omega arith
 deepest-least d (c ∷ s) = omega arith
 
-quiet-parts : (c : ℕ) → T (quiet c) → T (admitted c) × (eqb c 40 ≡ false) × (eqb c 41 ≡ false)
+quiet-parts : (c : ℕ) → T (quiet c) → T (admitted c) × (eqb c open-bracket ≡ false) × (eqb c close-bracket ≡ false)
 unfolding quiet
-quiet-parts c t = go (eqb c 40) (eqb c 41) refl refl (both (admitted c) _ t)
+quiet-parts c t = go (eqb c open-bracket) (eqb c close-bracket) refl refl (both (admitted c) _ t)
   where
-    go : (x y : Bool) → eqb c 40 ≡ x → eqb c 41 ≡ y → T (admitted c) × T (not x && not y) → T (admitted c) × (eqb c 40 ≡ false) × (eqb c 41 ≡ false)
+    go : (x y : Bool) → eqb c open-bracket ≡ x → eqb c close-bracket ≡ y → T (admitted c) × T (not x && not y) → T (admitted c) × (eqb c open-bracket ≡ false) × (eqb c close-bracket ≡ false)
     go false false e f w = (w .0, e, f)
     go true y e f w = absurd (w .1)
     go false true e f w = absurd (w .1)
@@ -114,11 +114,11 @@ fine-append {a} {b} v w = record {
 }
 
 -- a quiet text in brackets
-pub fine-brackets : (w : List ℕ) → T (all quiet w) → Fine (40 ∷ w ++ 41 ∷ [])
+pub fine-brackets : (w : List ℕ) → T (all quiet w) → Fine (open-bracket ∷ w ++ close-bracket ∷ [])
 unfolding all admitted deepest-from
 fine-brackets w t = record {
-  bytes = all-append admitted w (41 ∷ []) (all-weaker quiet admitted (λ c t. quiet-parts c t .0) w t) tt;
-  level = λ u. rw (append-assoc w (41 ∷ []) u, quiet-deep 1 w (41 ∷ u) t) (omega arith);
+  bytes = all-append admitted w (close-bracket ∷ []) (all-weaker quiet admitted (λ c t. quiet-parts c t .0) w t) tt;
+  level = λ u. rw (append-assoc w (close-bracket ∷ []) u, quiet-deep 1 w (close-bracket ∷ u) t) (omega arith);
 }
 
 pub fine-deepest : {w : List ℕ} → Fine w → leb (deepest w) 8 ≡ true

@@ -3,6 +3,7 @@ use Prim.Native.Nat.{ℕ}
 use mathlib.Core.Path.{refl}
 use mathlib.Core.Bool.{Bool, true, false}
 use mathlib.Core.List.{List, [], _∷_, _++_, append-assoc, append-nil}
+use Rattle.label.specs.Bytes.{slash}
 use Rattle.label.specs.declared.Rules.{Rules}
 use Rattle.label.specs.Lexical.{Numeral, Written, Factor, Part, turned-all, Kind, item, more, product, quotient}
 use Rattle.label.specs.Ogip.{unspaced}
@@ -71,16 +72,16 @@ module _ {r : Rules} where
   gap-wider (GapBy.many f p) = GapBy.many refl p
 
 -- one slash
-slash-over : OverBy all-rules (47 ∷ [])
+slash-over : OverBy all-rules (slash ∷ [])
 slash-over = OverBy.slashed refl Pad.none Pad.none
 
 -- one more item below a slash, at the end of a product
-more-last : {s t u : List ℕ} {ps qs : List Part} → G all-rules more s (47 ∷ t) ps → G all-rules item t u qs → G all-rules more s u (ps ++ turned-all qs)
+more-last : {s t u : List ℕ} {ps qs : List Part} → G all-rules more s (slash ∷ t) ps → G all-rules item t u qs → G all-rules more s u (ps ++ turned-all qs)
 more-last {qs = qs} G.done d = rw (← append-nil (turned-all qs)) (G.over slash-over d G.done)
 more-last {qs = qs} (G.times {ps = ps} {qs = rs} j i m) d = rw (append-assoc ps rs (turned-all qs)) (G.times j i (more-last m d))
 more-last {qs = qs} (G.over {ps = ps} {qs = rs} j i m) d = rw (append-assoc (turned-all ps) rs (turned-all qs)) (G.over j i (more-last m d))
 
-product-last : {s t u : List ℕ} {ps qs : List Part} → G all-rules product s (47 ∷ t) ps → G all-rules item t u qs → G all-rules product s u (ps ++ turned-all qs)
+product-last : {s t u : List ℕ} {ps qs : List Part} → G all-rules product s (slash ∷ t) ps → G all-rules item t u qs → G all-rules product s u (ps ++ turned-all qs)
 product-last {qs = qs} (G.first {ps = ps} {qs = rs} i m) d = rw (append-assoc ps rs (turned-all qs)) (G.first i (more-last m d))
 product-last {qs = qs} (G.under {ps = ps} {qs = rs} j i m) d = rw (append-assoc (turned-all ps) rs (turned-all qs)) (G.under j i (more-last m d))
 
@@ -101,7 +102,7 @@ wider (G.plain d) = wider d
 wider (G.divided f d i) = product-last (wider d) (wider i)
 
 -- a slash and one item is a product by all rules
-under-wider : {s : List ℕ} {ps : List Part} → G all-rules item s [] ps → G all-rules product (47 ∷ s) [] (turned-all ps)
+under-wider : {s : List ℕ} {ps : List Part} → G all-rules item s [] ps → G all-rules product (slash ∷ s) [] (turned-all ps)
 under-wider {ps = ps} d = rw (← append-nil (turned-all ps)) (G.under slash-over d G.done)
 
 pub label-wider : {r : Rules} {s : List ℕ} {f : Factor} {ps : List Part} → LabelBy r s f ps → LabelBy all-rules s f ps

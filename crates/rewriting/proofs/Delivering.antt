@@ -155,7 +155,7 @@ module _ {n : ℕ} {s : List ℕ} {t : Lent} {x : List ℕ} {ds cs : List ℤ} {
           };
     }
 
-    pub target-written : {y : Style} {o : Option (List ℕ)} → StyleOf m y → notation m ≡ true
-        → o ≡ label-text (style-in y) (y .notation) (r .k) (map (writable s) (terms-in s t x (count t))) → rewriting-into size n s m ≡ fitted size (sized o)
+    pub target-written : {y : Style} → StyleOf m y → notation m ≡ true
+        → rewriting-into size n s m ≡ fitted size (sized (label-text (style-in y) (y .notation) (r .k) (map (writable s) (terms-in s t x (count t)))))
     unfolding rewriting-into rewriting unless written written-by reading-in
-    target-written v h g = rw (g, ← w .number, eq-eqb (r .number) 0 zero, h, ← w .is zero, v .is, v .number)
+    target-written v h = rw (← w .number, eq-eqb (r .number) 0 zero, h, ← w .is zero, v .is, v .number)

@@ -1,20 +1,18 @@
--- The terms of a label: their units, the form that each takes, and the label that the forms write.
-use Prim.Native.Nat.{ℕ, zero, suc, _+_, _-_, _/_, _≤_, _<_}
+-- A whole label as it is written: its terms one by one, and the factor before them.
+use Prim.Native.Nat.{ℕ, zero, suc, _+_, _/_, _≤_, _<_}
 use native.Mathlib.Omega.{arith}
 use native.Mathlib.Numerals.{add-one}
-use native.Mathlib.Decide.{decLt}
 use mathlib.Core.Path.{_≡_, refl, sym, ap, _∙_}
 use mathlib.Core.Bool.{true, false}
 use mathlib.Core.List.{List, [], _∷_, _++_, map}
-use mathlib.Core.Option.{some}
-use lib.ListN.{length, drop, getD, set, length-set, length-append}
-use lib.Seq.{getD-set-same}
+use mathlib.Core.Option.{Option, some}
+use lib.IntN.{ℤ, pos}
+use lib.ListN.{length, getD, length-append}
 use Rattle.label.proofs.Basics.{false-true}
 use Rattle.label.specs.declared.Tens.{Tens}
 use Rattle.label.specs.Ranges.{between}
-use Rattle.label.specs.Symbols.{known, unknown}
 use Rattle.label.specs.Symbols as spec
-use Rattle.label.specs.Reading.{Term}
+use Rattle.label.specs.Reading.{Term, exponent}
 use Rattle.label.specs.Writing.{Writable, factor-text, symbol-text, both-texts, unit-text, more-text, label-text, own-letters, writable}
 use Rattle.label.specs.Rows.{Style}
 use Rattle.symbols.specs.declared.Symbol.{Symbol}
@@ -25,10 +23,11 @@ use Rattle.content.specs.Views.{by-code, symbol-at, term-in, terms-in}
 use Rattle.rewriting.specs.declared.form.Form.{Form}
 use Rattle.rewriting.specs.declared.name.Own.{Own}
 use Rattle.rewriting.specs.declared.unit.SourceTerm.{SourceTerm}
+use Rattle.rewriting.specs.Texts.{room, Holds, Writes}
 use Rattle.rewriting.specs.Names.{OwnOf}
-use Rattle.rewriting.specs.Forms.{form-text, forms-size, form-count, form-at, FormIn, Stored, AllForms, text-at, more-upto, label-by, forms-text}
-use Rattle.rewriting.specs.Units.{PrefixCode, Lettered, Owns, SymbolAt, TermOf, AllTerms, own-at, TermIs, FormOf, Chosen}
-use Rattle.rewriting.proofs.TextLaws.{both-assoc, both-empty, both-start}
+use Rattle.rewriting.specs.Forms.{form-text, raised-text, joint-before}
+use Rattle.rewriting.specs.Units.{PrefixCode, Lettered, Owns, SymbolAt, TermOf, own-at, TermIs}
+use Rattle.rewriting.proofs.TextLaws.{both-assoc, both-empty, both-start, writes-nothing, writes-then}
 
 -- A TERM
 
@@ -56,53 +55,21 @@ module _ {s p x : List ℕ} {i : ℕ} (w : TermOf s p x i) {u : Symbol} (v : Sym
   pub term-is : {own : Own} → OwnOf (between s (getD p i 0 + code / 65536) (getD p (32 + i) 0)) own → TermIs s p x i (record { unit = u; own = own })
   term-is o = record { unit = v .is s; lettered = lettered; own = record { owns = λ e. rw (own-part e) o } }
 
--- THE FORMS OF ALL TERMS
+-- a term in the form that its unit takes
+pub term-written : (y : Style) (m : ℕ) (s : List ℕ) (t : Lent) (x : List ℕ) (i : ℕ) (f : Form) {r : SourceTerm} {e : ℤ} {b c : List ℕ} {at q : ℕ}
+    → Writes b at (raised-text y s f (exponent e)) c q → TermIs s (t .places) x i r
+    → ((own : List ℕ) → Owns own r → form-text s f ≡ symbol-text y m own (symbol-in s (r .unit))) → e ≡ getD (t .exponents) i (pos 0)
+    → Writes b at (unit-text y m (writable s (term-in s t x i))) c q
+unfolding unit-text writable
+term-written y m s t x i f w v g p =
+    rw (← p, ← g (own-at s (t .places) x i) (v .own) ∙ ap (λ (u : spec.Symbol). symbol-text y m (own-at s (t .places) x i) u) (v .unit)) w
 
-pub form-is : {y : Style} {m : ℕ} {s p x : List ℕ} {i : ℕ} {r : SourceTerm} {f : Form} → TermIs s p x i r
-    → ((own : List ℕ) → Owns own r → form-text s f ≡ symbol-text y m own (symbol-in s (r .unit))) → FormIn s f → FormOf y m s p x i f
-form-is {y} {m} {s} {p} {x} {i} w g v =
-    record { is = g (own-at s p x i) (w .own) ∙ ap (λ (u : spec.Symbol). symbol-text y m (own-at s p x i) u) (w .unit); inside = v }
+-- ONE TERM MORE
 
--- the array z has the forms of the first i terms
-pub record ChosenTo (y : Style) (m : ℕ) (s p x : List ℕ) (i : ℕ) (z : List ℕ) : Type 0 where
-  pub size : length z ≡ forms-size
-  pub upto : i ≤ getD p 64 0
-  pub counted : form-count z ≡ getD p 64 0
-  pub forms : (j : ℕ) → j < i → FormOf y m s p x j (form-at z j)
-
-module _ (y : Style) (m : ℕ) (s p x : List ℕ) where
-  pub chosen-none : (z : List ℕ) → length z ≡ forms-size → ChosenTo y m s p x 0 (set z 160 (getD p 64 0))
-  chosen-none z h = record {
-    size = simp length-set h;
-    upto = omega arith;
-    counted = getD-set-same z 160 (getD p 64 0) 0 (omega arith);
-    forms = λ j g. absurd (omega arith);
-  }
-
-module _ {y : Style} {m : ℕ} {s p x : List ℕ} {i : ℕ} {z : List ℕ} (w : ChosenTo y m s p x i z) where
-  pub chosen-more : {f : Form} {d : List ℕ} → i < getD p 64 0 → FormOf y m s p x i f → Stored z i f d → ChosenTo y m s p x (i + 1) d
-  chosen-more {d = d} h v k = record {
-    size = k .size ∙ w .size;
-    upto = omega arith;
-    counted = k .counted ∙ w .counted;
-    forms = λ j g. go j g (decLt j i);
-  }
-    where
-      go : (j : ℕ) → j < i + 1 → Dec (j < i) → FormOf y m s p x j (form-at d j)
-      go j g (yes l) = rw (k .stay j l) (w .forms j l)
-      go j g (no l) = let e : j ≡ i = omega arith in rw (e, k .stored) v
-
-  pub chosen-all : AllTerms s p x → getD p 64 0 ≤ i → Chosen y m s p x z
-  chosen-all a h = record {
-    counted = w .counted;
-    few = omega (arith, w .counted, a .few);
-    forms = λ j g. w .forms j (omega arith);
-  }
-
-pub all-forms : {y : Style} {m : ℕ} {s p x z : List ℕ} → Chosen y m s p x z → AllForms s z
-all-forms w = record { few = w .few; forms = λ i h. w .forms i (omega (arith, w .counted)) .inside }
-
--- THE LABEL THAT THE FORMS WRITE
+-- what label-text has after the factor
+unfoldable pub terms-text : Style → ℕ → List Writable → Option (List ℕ)
+terms-text y m [] = some []
+terms-text y m (w ∷ ws) = both-texts (unit-text y m w) (more-text y m ws)
 
 more-snoc : (y : Style) (m : ℕ) (ws : List Writable) (v : Writable)
     → more-text y m (ws ++ v ∷ []) ≡ both-texts (more-text y m ws) (both-texts (some (y .joint)) (unit-text y m v))
@@ -111,10 +78,17 @@ more-snoc y m [] v = rw (both-empty (unit-text y m v)) (sym (both-start _))
 more-snoc y m (w ∷ ws) v =
     rw (more-snoc y m ws v, both-assoc (some (y .joint)) (both-texts (unit-text y m w) (more-text y m ws)) (both-texts (some (y .joint)) (unit-text y m v)), both-assoc (unit-text y m w) (more-text y m ws) (both-texts (some (y .joint)) (unit-text y m v)))
 
-more-last : (y : Style) (m : ℕ) (ws : List Writable) (v : Writable) → 1 ≤ length ws
-    → more-text y m (drop 1 (ws ++ v ∷ [])) ≡ both-texts (more-text y m (drop 1 ws)) (both-texts (some (y .joint)) (unit-text y m v))
-more-last y m [] v h = absurd (omega arith)
-more-last y m (w ∷ ws) v h = more-snoc y m ws v
+terms-snoc : (y : Style) (m : ℕ) (ws : List Writable) (v : Writable)
+    → terms-text y m (ws ++ v ∷ []) ≡ both-texts (terms-text y m ws) (both-texts (some (joint-before y (length ws))) (unit-text y m v))
+unfolding terms-text more-text joint-before
+terms-snoc y m [] v = rw (both-empty (unit-text y m v)) (sym (both-start _ ∙ both-start _))
+terms-snoc y m (w ∷ ws) v =
+    rw (more-snoc y m ws v) (sym (both-assoc (unit-text y m w) (more-text y m ws) (both-texts (some (y .joint)) (unit-text y m v))))
+
+label-terms : (y : Style) (m : ℕ) (k : Tens) (ws : List Writable) → 1 ≤ length ws → label-text y m k ws ≡ both-texts (some (factor-text y k)) (terms-text y m ws)
+unfolding label-text terms-text
+label-terms y m k [] h = absurd (omega arith)
+label-terms y m k (w ∷ ws) h = refl
 
 map-snoc : (s : List ℕ) (ts : List Term) (t : Term) → map (writable s) (ts ++ t ∷ []) ≡ map (writable s) ts ++ writable s t ∷ []
 map-snoc s [] t = refl
@@ -125,54 +99,44 @@ unfolding terms-in
 terms-length s t x zero = refl
 terms-length s t x (suc i) = rw (map-snoc s (terms-in s t x i) (term-in s t x i), length-append) (rw (terms-length s t x i) (add-one i))
 
-cons-snoc : (ws : List Writable) (h v : Writable) → ws ≡ h ∷ drop 1 ws → ws ++ v ∷ [] ≡ h ∷ drop 1 (ws ++ v ∷ [])
-cons-snoc [] h v e = absurd (omega (arith, ap length e))
-cons-snoc (w ∷ ws) h v e = let q : w ≡ h = cc in rw q
+-- the first i terms as they are written
+abbrev pub text-of : Style → ℕ → List ℕ → Lent → List ℕ → ℕ → Option (List ℕ)
+text-of y m s t x i = terms-text y m (map (writable s) (terms-in s t x i))
 
--- the first term is the first
-head-term : (s : List ℕ) (t : Lent) (x : List ℕ) (i : ℕ)
-    → map (writable s) (terms-in s t x (suc i)) ≡ writable s (term-in s t x 0) ∷ drop 1 (map (writable s) (terms-in s t x (suc i)))
-unfolding terms-in
-head-term s t x zero = refl
-head-term s t x (suc i) =
-    rw (map-snoc s (terms-in s t x (suc i)) (term-in s t x (suc i)))
-    (cons-snoc (map (writable s) (terms-in s t x (suc i))) (writable s (term-in s t x 0)) (writable s (term-in s t x (suc i))) (head-term s t x i))
+-- from the array b and the place at, the first i terms are written
+pub record Termed (y : Style) (m : ℕ) (s : List ℕ) (t : Lent) (x b : List ℕ) (at : ℕ) (c : List ℕ) (r i : ℕ) : Type 0 where
+  pub upto : i ≤ count t
+  pub written : Writes b at (text-of y m s t x i) c r
 
-module _ {y : Style} {m : ℕ} {s : List ℕ} (t : Lent) {x z : List ℕ} (w : Chosen y m s (t .places) x z) where
-  term-same : (i : ℕ) → i < count t → text-at y s z (t .exponents) i ≡ unit-text y m (writable s (term-in s t x i))
-  unfolding unit-text writable
-  term-same i h = rw (w .forms i h .is)
+module _ (y : Style) (m : ℕ) (s : List ℕ) (t : Lent) (x : List ℕ) where
+  pub no-term-yet : {b : List ℕ} {at : ℕ} → length b ≡ room → Termed y m s t x b at b at 0
+  unfolding terms-in terms-text
+  no-term-yet g = record { upto = omega arith; written = writes-nothing g }
 
-  more-same : (i : ℕ) → i < count t → more-text y m (drop 1 (map (writable s) (terms-in s t x (suc i)))) ≡ more-upto y s z (t .exponents) (suc i)
-  unfolding terms-in more-text more-upto
-  more-same zero h = refl
-  more-same (suc i) h =
+  pub no-terms : (k : Tens) (b : List ℕ) → count t ≡ 0 → Holds b 0 (label-text y m k (map (writable s) (terms-in s t x (count t))))
+  unfolding terms-in label-text
+  no-terms k b e = rw e (Holds.short [] refl refl (omega arith) refl)
+
+module _ {y : Style} {m : ℕ} {s : List ℕ} {t : Lent} {x b c : List ℕ} {at r i : ℕ} (l : Termed y m s t x b at c r i) where
+  pub next-term : {d e : List ℕ} {p q : ℕ} → i < count t → Writes c r (some (joint-before y i)) d p
+      → Writes d p (unit-text y m (writable s (term-in s t x i))) e q → Termed y m s t x b at e q (i + 1)
+  unfolding terms-in
+  next-term h v w = record {
+    upto = omega arith;
+    written = rw (
+      add-one i,
+      map-snoc s (terms-in s t x i) (term-in s t x i),
+      terms-snoc y m (map (writable s) (terms-in s t x i)) (writable s (term-in s t x i)),
+      terms-length s t x i,
+    ) (writes-then (l .written) (writes-then v w));
+  }
+
+  pub all-terms : (k : Tens) {a : List ℕ} → (count t ≡ 0 → ⊥) → count t ≤ i → Writes a 0 (some (factor-text y k)) b at
+      → Holds c r (label-text y m k (map (writable s) (terms-in s t x (count t))))
+  all-terms k h g w =
+      let e : i ≡ count t = omega (arith, l .upto) in
       rw (
-        map-snoc s (terms-in s t x (suc i)) (term-in s t x (suc i)),
-        more-last y m (map (writable s) (terms-in s t x (suc i))) (writable s (term-in s t x (suc i))) (rw (terms-length s t x (suc i)) (omega arith)),
-        more-same i (omega arith),
-        term-same (suc i) h,
-      )
-
-  label-open : (k : Tens) (ws : List Writable) (v : Writable) → ws ≡ v ∷ drop 1 ws
-      → label-text y m k ws ≡ both-texts (some (factor-text y k)) (both-texts (unit-text y m v) (more-text y m (drop 1 ws)))
-  unfolding label-text
-  label-open k [] v e = absurd (omega (arith, ap length e))
-  label-open k (u ∷ us) v e = let q : u ≡ v = cc in rw q
-
-  some-same : (k : Tens) (n : ℕ) → n < count t
-      → both-texts (some (factor-text y k)) (both-texts (text-at y s z (t .exponents) 0) (more-upto y s z (t .exponents) (suc n)))
-      ≡ label-text y m k (map (writable s) (terms-in s t x (suc n)))
-  some-same k n h =
-      rw (term-same 0 (omega arith), ← more-same n h)
-      (sym (label-open k (map (writable s) (terms-in s t x (suc n))) (writable s (term-in s t x 0)) (head-term s t x n)))
-
-  pub label-same : (k : Tens) → forms-text y s k z (t .exponents) ≡ label-text y m k (map (writable s) (terms-in s t x (count t)))
-  unfolding forms-text label-by terms-in label-text
-  label-same k = rw (w .counted) (go (count t) (λ i h. omega arith))
-    where
-      go : (n : ℕ) → ((i : ℕ) → suc i ≡ n → i < count t)
-          → label-by n (some (factor-text y k)) (both-texts (text-at y s z (t .exponents) 0) (more-upto y s z (t .exponents) n))
-          ≡ label-text y m k (map (writable s) (terms-in s t x n))
-      go zero h = refl
-      go (suc n) h = some-same k n (h n refl)
+        ← e,
+        label-terms y m k (map (writable s) (terms-in s t x i)) (rw (terms-length s t x i) (omega arith)),
+        ← both-start (both-texts (some (factor-text y k)) (text-of y m s t x i)),
+      ) (writes-then w (l .written) .adds (some []) (Holds.short [] refl refl (omega arith) refl))

@@ -9,8 +9,7 @@ use Rattle.label.specs.Choice.{pick}
 use Rattle.label.specs.Ranges.{between}
 use Rattle.label.specs.Limits.{most-bytes, most-terms}
 use Rattle.label.specs.Units.{unit-at}
-use Rattle.label.specs.Writing.{prefix-letters, name-in, symbol-text, both-texts, own-letters}
-use Rattle.label.specs.Rows.{Style}
+use Rattle.label.specs.Writing.{prefix-letters, name-in, both-texts, own-letters}
 use Rattle.symbols.specs.declared.Symbol.{Symbol}
 use Rattle.symbols.specs.Views.{place, symbol-in}
 use Rattle.content.specs.Views.{symbol-at}
@@ -18,7 +17,7 @@ use Rattle.rewriting.specs.declared.form.Form.{Form}
 use Rattle.rewriting.specs.declared.unit.SourceTerm.{SourceTerm}
 use Rattle.rewriting.specs.Letters.{letters-of}
 use Rattle.rewriting.specs.Names.{OwnOf}
-use Rattle.rewriting.specs.Forms.{form-text, form-count, form-at, FormIn}
+use Rattle.rewriting.specs.Forms.{form-text}
 
 -- the code of a prefix: how many letters it has, and below that their key
 pub record PrefixCode (prefix code : ℕ) : Type 0 where
@@ -84,14 +83,3 @@ pub record TermIs (s p x : List ℕ) (i : ℕ) (r : SourceTerm) : Type 0 where
   pub unit : symbol-in s (r .unit) ≡ symbol-at s x i
   pub lettered : Lettered s (r .unit)
   pub own : Owns (own-at s p x i) r
-
--- f is the form that the unit of term i takes in notation m
-pub record FormOf (y : Style) (m : ℕ) (s p x : List ℕ) (i : ℕ) (f : Form) : Type 0 where
-  pub is : form-text s f ≡ symbol-text y m (own-at s p x i) (symbol-at s x i)
-  pub inside : FormIn s f
-
--- the array z has the form of every term
-pub record Chosen (y : Style) (m : ℕ) (s p x z : List ℕ) : Type 0 where
-  pub counted : form-count z ≡ getD p 64 0
-  pub few : form-count z ≤ most-terms
-  pub forms : (i : ℕ) → i < getD p 64 0 → FormOf y m s p x i (form-at z i)

@@ -1,5 +1,5 @@
 // What rewriting a label answers, and what the lent buffer holds then.
-use crate::source::choose;
+use crate::whole::Target;
 use crate::whole::push_label;
 use notations::rows::is_notation;
 use notations::rows::style_of;
@@ -76,9 +76,9 @@ pub fn rewrite(n: u32, s: &[u8], m: u32, buffer: &mut [u8]) -> Rewritten
         };
     }
     let style = style_of(m as u8);
-    let mut forms: [u64; 161] = [0; 161];
-    choose(style, s, &places, &names, &mut forms);
+    let k = a.k;
+    let target = Target { style, k };
     let mut text: [u8; 260] = [0; 260];
-    let end = push_label(&mut text, style, s, a.k, &forms, &exponents);
+    let end = push_label(&mut text, target, s, &places, &exponents, &names);
     deliver(&text, end, buffer)
 }

@@ -1,23 +1,14 @@
-// The terms of the source, and the form that each takes in the target.
-use crate::form::store;
+// The terms of the source.
 use crate::name::letters_in;
 use crate::unit::SourceTerm;
-use crate::unit::form_of;
 use crate::unit::prefix_code;
 use content::named::number_at;
-use notations::rows::Style;
 use symbols::Symbol;
-use symbols::tables::name_codes;
-use symbols::tables::name_keys;
-use symbols::tables::prefix_codes;
 ghost use Prim.Native.Nat.{_<_};
 ghost use mathlib.Core.Path.{_≡_};
-ghost use lib.ListN.{length};
 ghost use Rattle.label.specs.Limits.{most-terms};
 ghost use Rattle.symbols.specs.Columns.{prefix-codes};
-ghost use Rattle.notations.specs.Styles.{style-in};
-ghost use Rattle.rewriting.specs.Forms.{forms-size};
-ghost use Rattle.rewriting.specs.Units.{SymbolAt, TermOf, TermIs, AllTerms, Chosen};
+ghost use Rattle.rewriting.specs.Units.{SymbolAt, TermOf, TermIs};
 
 // What the spelling of term `i` stands for.
 fn unit_at(names: &[u8; 128], i: usize) -> Symbol
@@ -47,7 +38,7 @@ fn unit_at(names: &[u8; 128], i: usize) -> Symbol
 }
 
 // Term `i` of the label `s`.
-fn term_at(
+pub fn term_at(
     prefixes: &[u32],
     s: &[u8],
     places: &[usize; 66],
@@ -64,29 +55,4 @@ fn term_at(
     let end = places[32 + i];
     let own = letters_in(s, start + (code / 65536) as usize, end);
     SourceTerm { unit, own }
-}
-
-// Chooses the form of each term's unit.
-pub fn choose(
-    style: Style,
-    s: &[u8],
-    places: &[usize; 66],
-    names: &[u8; 128],
-    forms: &mut [u64; 161],
-)
-    requires { ⌜ AllTerms (now s) (now places) (now names) × (length (now forms) ≡ forms-size) ⌝ }
-    ensures { λ _. ⌜ Chosen (style-in style) (style .notation) (now (s .entry)) (now (places .entry)) (now (names .entry)) (now (forms .exit)) ⌝ }
-{
-    let keys = name_keys();
-    let codes = name_codes();
-    let prefixes = prefix_codes();
-    let count = places[64];
-    forms[160] = count as u64;
-    let mut i = 0;
-    while i < count {
-        let term = term_at(&prefixes, s, places, names, i);
-        let form = form_of(&keys, &codes, &prefixes, style, s, term);
-        store(forms, i, form);
-        i += 1;
-    }
 }

@@ -90,8 +90,8 @@ fn plain_form(keys: &[u64], codes: &[u32], prefixes: &[u32], m: u8, term: Source
             kind: PLAIN,
             prefix,
             name: 0,
-            start: unit.start as u64,
-            end: unit.end as u64,
+            start: unit.start,
+            end: unit.end,
         };
     }
     let name = name_in(keys, codes, m, names_of(unit.unit), term.own);

@@ -2,18 +2,44 @@
 use crate::exponent::push_exponent;
 use crate::factor::push_factor;
 use crate::form::Form;
-use crate::form::form_at;
 use crate::form::push_form;
+use crate::source::term_at;
 use crate::text::push;
+use crate::unit::form_of;
 use label::Exponent;
 use label::Tens;
 use notations::rows::Style;
-ghost use Prim.Native.Nat.{_<_};
+use symbols::tables::name_codes;
+use symbols::tables::name_keys;
+use symbols::tables::prefix_codes;
 ghost use mathlib.Core.Path.{_≡_};
+ghost use mathlib.Core.List.{map};
+ghost use mathlib.Core.Option.{some};
 ghost use lib.ListN.{length};
+ghost use Rattle.label.specs.Writing.{writable, label-text};
+ghost use Rattle.descent.specs.Terms.{lent, count};
+ghost use Rattle.content.specs.Views.{terms-in};
 ghost use Rattle.rewriting.specs.Texts.{room, Holds, Writes};
 ghost use Rattle.notations.specs.Styles.{style-in};
-ghost use Rattle.rewriting.specs.Forms.{form-count, FormIn, AllForms, raised-text, terms-text, forms-text};
+ghost use Rattle.rewriting.specs.Forms.{FormIn, raised-text, joint-before};
+ghost use Rattle.rewriting.specs.Units.{AllTerms};
+
+// What a label is written with: the style of the target, and the power of ten of the factor.
+pub struct Target {
+    pub style: Style,
+    pub k: Tens,
+}
+
+// Writes what joins term `i` to those before it.
+fn push_joint(text: &mut [u8; 260], at: usize, style: Style, i: usize) -> usize
+    requires { ⌜ length (now text) ≡ room ⌝ }
+    ensures { λ r. ⌜ Writes (now (text .entry)) at (some (joint-before (style-in style) i)) (now (text .exit)) r ⌝ }
+{
+    if i == 0 {
+        return at;
+    }
+    push(text, at, style.joint)
+}
 
 // Writes a unit in its form, and its exponent.
 fn push_term(
@@ -31,48 +57,37 @@ fn push_term(
     push_exponent(text, after, style, exponent)
 }
 
-// Writes the terms, of which there is at least one, with what joins them.
-fn push_terms(
-    text: &mut [u8; 260],
-    at: usize,
-    style: Style,
-    s: &[u8],
-    forms: &[u64; 161],
-    exponents: &[i32; 32],
-) -> usize
-    requires { ⌜ (length (now text) ≡ room) × AllForms (now s) (now forms) ⌝ }
-    requires { ⌜ 0 < form-count (now forms) ⌝ }
-    ensures { λ r. ⌜ Writes (now (text .entry)) at (terms-text (style-in style) (now (s .entry)) (now (forms .entry)) (now (exponents .entry))) (now (text .exit)) r ⌝ }
-{
-    let count = forms[160] as usize;
-    let first = form_at(forms, 0);
-    let mut place = push_term(text, at, style, s, first, Exponent(exponents[0]));
-    let mut i = 1;
-    while i < count {
-        let joined = push(text, place, style.joint);
-        let next = form_at(forms, i);
-        place = push_term(text, joined, style, s, next, Exponent(exponents[i]));
-        i += 1;
-    }
-    place
-}
-
 // Writes the factor and the terms, from the array's start.
 pub fn push_label(
     text: &mut [u8; 260],
-    style: Style,
+    target: Target,
     s: &[u8],
-    k: Tens,
-    forms: &[u64; 161],
+    places: &[usize; 66],
     exponents: &[i32; 32],
+    names: &[u8; 128],
 ) -> usize
-    requires { ⌜ (length (now text) ≡ room) × AllForms (now s) (now forms) ⌝ }
-    ensures { λ r. ⌜ Holds (now (text .exit)) r (forms-text (style-in style) (now (s .entry)) k (now (forms .entry)) (now (exponents .entry))) ⌝ }
+    requires { ⌜ (length (now text) ≡ room) × AllTerms (now s) (now places) (now names) ⌝ }
+    ensures { λ r. ⌜ Holds (now (text .exit)) r (label-text (style-in (target .style)) (target .style .notation) (target .k)
+        (map (writable (now (s .entry))) (terms-in (now (s .entry)) (lent (now (places .entry)) (now (exponents .entry))) (now (names .entry))
+        (count (lent (now (places .entry)) (now (exponents .entry))))))) ⌝ }
     ensures { λ _. ⌜ length (now (text .exit)) ≡ room ⌝ }
 {
-    if forms[160] == 0 {
+    let count = places[64];
+    if count == 0 {
         return 0;
     }
-    let first = push_factor(text, 0, style, k);
-    push_terms(text, first, style, s, forms, exponents)
+    let keys = name_keys();
+    let codes = name_codes();
+    let prefixes = prefix_codes();
+    let style = target.style;
+    let mut place = push_factor(text, 0, style, target.k);
+    let mut i = 0;
+    while i < count {
+        let term = term_at(&prefixes, s, places, names, i);
+        let form = form_of(&keys, &codes, &prefixes, style, s, term);
+        let joined = push_joint(text, place, style, i);
+        place = push_term(text, joined, style, s, form, Exponent(exponents[i]));
+        i += 1;
+    }
+    place
 }

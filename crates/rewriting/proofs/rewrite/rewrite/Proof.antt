@@ -3,7 +3,6 @@ use native.Mathlib.Omega.{arith}
 use borrow.Author.Needs.{needs}
 use borrow.Author.Tests.{not-true, not-false}
 use mathlib.Core.Path.{sym, _∙_}
-use Rattle.rewriting.proofs.LabelTexts.{all-forms, label-same}
 use Rattle.rewriting.proofs.Delivering.{refuses, keeps, answers-as, buffer-as, source-refused, notation-small, target-refused, terms-are, target-written}
 use Rattle.rewriting.proofs.rewrite.rewrite.Statement.{statement}
 use Rattle.rewriting.proofs.rewrite.rewrite.Tie as tie
@@ -24,16 +23,13 @@ cast-style-of c = omega (arith, notation-small _ (sym (c .before .is-notation .e
 style-of-requires : tie.Need-style-of-requires
 style-of-requires c κs = sym (c .before .is-notation .ensures) ∙ not-false _ (c .if2 .left)
 
-choose-requires : tie.Need-choose-requires
-choose-requires c κs = (terms-are (c .before .before .before .before .before .before .before .before .read .ensures) 0 0 (c .before .before .before .before .before .before .if1 .left), search needs)
-
 push-label-requires : tie.Need-push-label-requires
-push-label-requires c κs = (search needs, all-forms (c .before .before .before .choose .ensures))
+push-label-requires c κs = (search needs, terms-are (c .before .before .before .before .before .before .before .before .before .before .read .ensures) 0 0 (c .before .before .before .before .before .before .before .before .if1 .left))
 
 returns-3 : tie.Need-returns-3
 returns-3 c =
-    let target = sym (c .before .before .before .before .before .before .before .before .before .before .before .before .before .before .before .is-notation .ensures) ∙ not-false _ (c .before .before .before .before .before .before .before .before .before .before .before .before .before .before .if2 .left) in
-    let e = target-written (c .before .before .before .before .before .before .before .before .before .before .before .before .before .before .before .before .before .before .read .ensures) _ _ (c .before .before .before .before .before .before .before .before .before .before .before .before .before .before .before .before .if1 .left) (c .before .before .before .before .before .before .before .before .before .before .before .before .before .style-of .ensures) target (label-same _ (c .before .before .before .before .before .before .before .before .before .choose .ensures) _) in
+    let target = sym (c .before .before .before .before .before .before .before .before .before .before .before .before .before .is-notation .ensures) ∙ not-false _ (c .before .before .before .before .before .before .before .before .before .before .before .before .if2 .left) in
+    let e = target-written (c .before .before .before .before .before .before .before .before .before .before .before .before .before .before .before .before .read .ensures) _ _ (c .before .before .before .before .before .before .before .before .before .before .before .before .before .before .if1 .left) (c .before .before .before .before .before .before .before .before .before .before .before .style-of .ensures) target in
     let w = c .before .before .before .before .before .push-label .ensures .0 in
     (answers-as e (c .before .before .deliver .ensures .0 _ w), buffer-as _ _ e (c .before .before .deliver .ensures .1 _ w))
 
@@ -48,7 +44,6 @@ rewrite-spec =
     returns-2
     cast-style-of
     style-of-requires
-    choose-requires
     push-label-requires
     (λ c. search needs)
     (λ c κs. search needs)

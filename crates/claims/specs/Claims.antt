@@ -50,7 +50,7 @@ RefusalsAreEmpty = (n : ℕ) (s : List ℕ) (i : ℕ) → Refused i n s → Empt
 abbrev pub ZeroIsAcceptance : Type 0
 ZeroIsAcceptance = (n : ℕ) (s : List ℕ) → (reading n s .number ≡ 0) ↔ ((x : Split) × Accepts n s x)
 
--- Then the reading has exactly the split's content, with the notation's own symbols, and each term stands where its spelling does.
+-- Then the reading has exactly the split's content, with the notation's own symbols, and each term is where its spelling does.
 abbrev pub AcceptedContent : Type 0
 AcceptedContent = (n : ℕ) (s : List ℕ) (x : Split) → Accepts n s x → Gives n s x (reading n s)
 

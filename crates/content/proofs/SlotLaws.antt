@@ -42,7 +42,7 @@ slot-base-in k h (unknown p l) = omega arith
 
 -- PRIMES
 
--- each prime stands once among the four
+-- each prime is once among the four
 pub primes-add : (y : Symbol) (b : ℕ) → b < 4 → four-adds b (λ j. j ↑ prime-in (prime-at j) y) ≡ prime-in (prime-at b) y
 primes-add y zero h = +ℤ-idr (prime-in 2 y)
 primes-add y (suc zero) h = rw (+ℤ-idr (prime-in 3 y), +ℤ-idl (prime-in 3 y))

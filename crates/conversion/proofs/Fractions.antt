@@ -66,7 +66,7 @@ power-down : (p : ℕ) (z : ℤ) → p ^ down z ≡ below p z
 power-down p (pos n) = pow-zero p
 power-down p (negsuc n) = refl
 
--- one side of the fraction, of exponents that are told by their bits
+-- one side of the fraction, of exponents that are given by their bits
 side : (f : ℤ → ℕ) (g : ℕ → ℤ → ℕ) → ((p : ℕ) (z : ℤ) → p ^ f z ≡ g p z) → (t b e : ℤ) → natAbs t < 2 ^ 31 → natAbs b < 2 ^ 30 → natAbs e < 2 ^ 30
     → {x y w n : ℕ} → x ≡ f (toZ w64 (ofZ w64 t)) → y ≡ f (toZ w64 (ofZ w64 b)) → w ≡ f (toZ w64 (ofZ w64 e))
     → Held (2 ^ x * 3 ^ y * 487 ^ w) n → Held (g 2 t * g 3 b * g 487 e) n

@@ -29,7 +29,7 @@ use Rattle.label.proofs.Basics.{none-some, false-true}
 use Rattle.label.proofs.General.{SpellingBy, ExponentBy}
 use Rattle.label.proofs.Ruled.{RuledBy, derives-by, notation-ruled, Suited, ruled-suited}
 use Rattle.label.proofs.Refusals.{bounds, Values, valued-values}
-use Rattle.label.proofs.Places.{Stands, AllStand, label-stands, stands-there}
+use Rattle.label.proofs.Places.{Located, AllLocated, label-located, located-there}
 use Rattle.label.proofs.Readings.{Accepted, Answered, answer-of, number-refused, accepted-reading}
 use Rattle.label.proofs.Figures.{size-signed}
 use Rattle.label.proofs.Spelled.{read-as}
@@ -212,15 +212,15 @@ exponent-formed {n} b e o x h = go (member n fractionless) refl
 -- THE TERMS OF AN ACCEPTED LABEL
 
 module _ {n : ℕ} {y : Style} (o : Suited n y) (s : List ℕ) where
-  part-formed : {p : Part} (e : Exponent) → PartBy (o .rules) p → Stands s p → exponent-of (p .turned) (p .power) ≡ some e → HasForm n (writable-at n s p e)
+  part-formed : {p : Part} (e : Exponent) → PartBy (o .rules) p → Located s p → exponent-of (p .turned) (p .power) ≡ some e → HasForm n (writable-at n s p e)
   part-formed {p} e d w h =
       let f = spelling-formed o (d .spelled) in
-      record { spelling = f .0; unit = rw (stands-there w) (f .1); exponent = exponent-formed (p .turned) e (o .ruled) (d .raised) h }
+      record { spelling = f .0; unit = rw (located-there w) (f .1); exponent = exponent-formed (p .turned) e (o .ruled) (d .raised) h }
 
-  units-formed : {ps : List Part} {us : List Placed} → AllParts (o .rules) ps → AllStand s ps → Values ps us → AllFormed n (map (writable s) (map (term n (length s)) us))
+  units-formed : {ps : List Part} {us : List Placed} → AllParts (o .rules) ps → AllLocated s ps → Values ps us → AllFormed n (map (writable s) (map (term n (length s)) us))
   unfolding writable term
-  units-formed AllParts.done AllStand.none Values.no-values = AllFormed.done
-  units-formed (AllParts.also d ds) (AllStand.some w ws) (Values.value {e = e} h v) = AllFormed.also (part-formed e d w h) (units-formed ds ws v)
+  units-formed AllParts.done AllLocated.none Values.no-values = AllFormed.done
+  units-formed (AllParts.also d ds) (AllLocated.some w ws) (Values.value {e = e} h v) = AllFormed.also (part-formed e d w h) (units-formed ds ws v)
 
 -- what an accepted label's terms are to be written from
 record Accounted (n : ℕ) (ws : List Writable) : Type 0 where
@@ -233,7 +233,7 @@ accepted-accounted {n} {s} {v} a =
     let u = valued-values (a .factor) (a .parts) v (a .within) in
     record {
       ready = accepted-kept a .ready;
-      formed = units-formed (ruled-suited (d .1)) s (label-parts (d .2)) (label-stands (d .2)) u;
+      formed = units-formed (ruled-suited (d .1)) s (label-parts (d .2)) (label-located (d .2)) u;
     }
 
 reading-accounted : {n : ℕ} {s : List ℕ} {v : Valued} → Accepted n s v → (a : Reading) → a ≡ reading-of n (v .k) (map (term n (length s)) (v .units)) → Accounted n (map (writable s) (a .terms))

@@ -298,7 +298,7 @@ factor-cds (FactorBy.caret f w) = absurd (false-true f)
 factor-cds (FactorBy.signed f i) = Cds.Tens.signed i
 factor-cds (FactorBy.plain f p) = Cds.Tens.plain p
 
--- where no space joins, nothing stands between the factor and the units
+-- where no space joins, nothing is between the factor and the units
 data Gapless : List ℕ → Type 0 where
   gapless : Gapless []
 

@@ -1,4 +1,4 @@
--- What stands between units: the texts that join are found by the functions, and what the functions find joins.
+-- What is between units: the texts that join are found by the functions, and what the functions find joins.
 use Prim.Native.Nat.{ℕ, _≤_}
 use mathlib.Core.Path.{_≡_, refl, sym, _∙_, ap}
 use mathlib.Core.Bool.{Bool, true, false, _&&_, _||_}
@@ -92,9 +92,9 @@ joint-byte : (r : Rules) {a b : List ℕ} (c : ℕ) → Pad r a → Pad r b → 
 unfolding joint joint-at separates
 joint-byte r {a} {b} c p q n h s w = rw (append-assoc a (c ∷ b) s, padded-pad r p (c ∷ b ++ s) (Stops.other n), h, padded-pad r q s w)
 
-behind-spaces : (r : Rules) (w : List ℕ) (c : ℕ) (u v : List ℕ) → Opener c → r .space ≡ true → padded r w ≡ v → joint-at r (space ∷ w) (c ∷ u) ≡ times v
+after-spaces : (r : Rules) (w : List ℕ) (c : ℕ) (u v : List ℕ) → Opener c → r .space ≡ true → padded r w ≡ v → joint-at r (space ∷ w) (c ∷ u) ≡ times v
 unfolding joint-at spaced
-behind-spaces r w c u v o f q = rw (o .no-star, o .no-point, o .no-slash, q, f)
+after-spaces r w c u v o f q = rw (o .no-star, o .no-point, o .no-slash, q, f)
 
 joint-space : (r : Rules) {a : List ℕ} → r .space ≡ true → Pad r a → (s : List ℕ) → Begins s → joint r (space ∷ a ++ s) ≡ times s
 unfolding joint joint-at spaced padded all
@@ -103,11 +103,11 @@ joint-space r {a} f p s w = go (r .spaces) refl
     tail : padded r (a ++ s) ≡ s
     tail = padded-pad r p s (begins-stops w)
 
-    behind : joint-at r (space ∷ a ++ s) s ≡ times s
-    behind = let o = opens w in ap (λ (l : List ℕ). joint-at r (space ∷ a ++ s) l) (o .is) ∙ behind-spaces r (a ++ s) (o .byte) (o .rest) s (o .opener) f tail
+    after : joint-at r (space ∷ a ++ s) s ≡ times s
+    after = let o = opens w in ap (λ (l : List ℕ). joint-at r (space ∷ a ++ s) l) (o .is) ∙ after-spaces r (a ++ s) (o .byte) (o .rest) s (o .opener) f tail
 
     go : (b : Bool) → r .spaces ≡ b → joint-at r (space ∷ a ++ s) (pick b (past is-space (space ∷ a ++ s)) (space ∷ a ++ s)) ≡ times s
-    go true e = rw (past-of is-space (space ∷ a) s (pad-all p) (begins-stops w)) behind
+    go true e = rw (past-of is-space (space ∷ a) s (pad-all p) (begins-stops w)) after
     go false e = rw (f, tail)
 
 pub times-joint : (r : Rules) {j : List ℕ} → TimesBy r j → (s : List ℕ) → Begins s → joint r (j ++ s) ≡ times s

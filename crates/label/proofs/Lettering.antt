@@ -26,7 +26,7 @@ use Rattle.label.proofs.General.{SpellingBy, G, LabelBy}
 use Rattle.label.proofs.LexComplete.{prefix-letters, letters-all}
 use Rattle.label.proofs.Ruled.{derives-by}
 use Rattle.label.proofs.Refusals.{Values, valued-values}
-use Rattle.label.proofs.Places.{AllStand, label-stands, stands-there}
+use Rattle.label.proofs.Places.{AllLocated, label-located, located-there}
 use Rattle.label.proofs.Readings.{Answered, answer-of}
 
 -- what a spelling l stands for: a known unit; letters after a prefix name or nothing; or letters in quotes there
@@ -213,11 +213,11 @@ pub data AllSpelt (s : List ℕ) : List Term → Type 0 where
   none-spelt : AllSpelt s []
   all-spelt : {t : Term} {ts : List Term} → TermSpelt s t → AllSpelt s ts → AllSpelt s (t ∷ ts)
 
-terms-spelt : (n : ℕ) (s : List ℕ) {ps : List Part} {us : List Placed} → Values ps us → AllStand s ps → AllSpell ps → AllSpelt s (map (term n (length s)) us)
+terms-spelt : (n : ℕ) (s : List ℕ) {ps : List Part} {us : List Placed} → Values ps us → AllLocated s ps → AllSpell ps → AllSpelt s (map (term n (length s)) us)
 unfolding term
-terms-spelt n s Values.no-values AllStand.none d = AllSpelt.none-spelt
-terms-spelt n s (Values.value {p = p} e vs) (AllStand.some w ws) (AllSpell.spells d ds) =
-    AllSpelt.all-spelt (record { spelling = p .spelling; there = stands-there w; sized = refl; spelt = d n }) (terms-spelt n s vs ws ds)
+terms-spelt n s Values.no-values AllLocated.none d = AllSpelt.none-spelt
+terms-spelt n s (Values.value {p = p} e vs) (AllLocated.some w ws) (AllSpell.spells d ds) =
+    AllSpelt.all-spelt (record { spelling = p .spelling; there = located-there w; sized = refl; spelt = d n }) (terms-spelt n s vs ws ds)
 
 pub reading-spelt : (n : ℕ) (s : List ℕ) → AllSpelt s (reading n s .terms)
 unfolding reading answered refusal reading-of
@@ -227,7 +227,7 @@ reading-spelt n s = go (answer-of n s)
     go (Answered.refusing i e d) = rw e AllSpelt.none-spelt
     go (Answered.accepting v a) =
         let l = derives-by (a .derived) .2 in
-        rw (a .checks) (terms-spelt n s (valued-values (a .factor) (a .parts) v (a .within)) (label-stands l) (label-spells l))
+        rw (a .checks) (terms-spelt n s (valued-values (a .factor) (a .parts) v (a .within)) (label-located l) (label-spells l))
 
 -- THE PLACE OF THE LETTERS
 

@@ -56,9 +56,9 @@ closed-complete f x a rest e = rw e
 
 -- an opening bracket and what is found after it
 record Opened (s : List ℕ) (w : Written) (rest : List ℕ) : Type 0 where
-  behind : List ℕ
-  opens : s ≡ open-bracket ∷ behind
-  finds : bracketed behind ≡ found w rest
+  inner : List ℕ
+  opens : s ≡ open-bracket ∷ inner
+  finds : bracketed inner ≡ found w rest
 
 -- a decimal and the closing bracket
 decimal-complete : {s d : List ℕ} {n : Numeral} → Decimal s n d → (rest : List ℕ) → bracketed (s ++ close-bracket ∷ rest) ≡ found (decimal n d) rest
@@ -70,12 +70,12 @@ decimal-complete (Decimal.pointed {s = s} {d = d} i g) rest =
 bracketed-complete : {s : List ℕ} {w : Written} → Bracketed s w → (rest : List ℕ) → Opened (s ++ rest) w rest
 unfolding bracketed then bracketed-on digit
 bracketed-complete (Bracketed.an-integer {s = s} i) rest =
-    record { behind = _; opens = refl; finds = rw (append-assoc s (close-bracket ∷ []) rest, integer-complete i (close-bracket ∷ rest) (Stops.other refl)) }
+    record { inner = _; opens = refl; finds = rw (append-assoc s (close-bracket ∷ []) rest, integer-complete i (close-bracket ∷ rest) (Stops.other refl)) }
 bracketed-complete (Bracketed.a-decimal {s = s} g) rest =
-    record { behind = _; opens = refl; finds = rw (append-assoc s (close-bracket ∷ []) rest) (decimal-complete g rest) }
+    record { inner = _; opens = refl; finds = rw (append-assoc s (close-bracket ∷ []) rest) (decimal-complete g rest) }
 bracketed-complete (Bracketed.a-fraction {s = s} {d = d} i u) rest =
     record {
-      behind = _;
+      inner = _;
       opens = refl;
       finds = rw (append-assoc (s ++ slash ∷ d) (close-bracket ∷ []) rest, append-assoc s (slash ∷ d) (close-bracket ∷ rest), integer-complete i (slash ∷ d ++ close-bracket ∷ rest) (Stops.other refl))
           (closed-complete _ _ d rest (unsigned-complete u (close-bracket ∷ rest) (Stops.other refl)));
@@ -92,7 +92,7 @@ opened-power s t o f = rw o f
 
 pub power-complete : {e : List ℕ} {w : Written} → Power e w → (rest : List ℕ) → Stops digit rest → power (e ++ rest) ≡ found w rest
 power-complete (Power.integer i) rest h = numeric-power (integer-numeric i rest) (integer-complete i rest h)
-power-complete (Power.bracketed b) rest h = let o = bracketed-complete b rest in opened-power _ (o .behind) (o .opens) (o .finds)
+power-complete (Power.bracketed b) rest h = let o = bracketed-complete b rest in opened-power _ (o .inner) (o .opens) (o .finds)
 
 -- EXPONENTS
 
@@ -143,7 +143,7 @@ pub exponent-complete : (r : Rules) {e : List ℕ} {w : Written} → ExponentBy 
 unfolding exponent digit starred
 exponent-complete r ExponentBy.none rest h = no-exponent r h
 exponent-complete r (ExponentBy.integer f i) rest h = numeric-exponent r f (integer-numeric i rest) (integer-complete i rest (no-digit h))
-exponent-complete r (ExponentBy.bracketed f b) rest h = let o = bracketed-complete b rest in opened-exponent r _ f (o .behind) (o .opens) (o .finds)
+exponent-complete r (ExponentBy.bracketed f b) rest h = let o = bracketed-complete b rest in opened-exponent r _ f (o .inner) (o .opens) (o .finds)
 exponent-complete r (ExponentBy.stars f p) rest h = rw f (power-complete p rest (no-digit h))
 exponent-complete r (ExponentBy.caret f p) rest h = rw f (power-complete p rest (no-digit h))
 

@@ -26,17 +26,17 @@ Begins P s a rest = (e : List ℕ) × P e a × (s ≡ e ++ rest)
 abbrev Itself : (List ℕ → Type 0) → List ℕ → List ℕ → Type 0
 Itself P e d = P e × (e ≡ d)
 
--- a text that is an a once x stands in front of it
-abbrev Behind : {A : Type 0} → List ℕ → (List ℕ → A → Type 0) → List ℕ → A → Type 0
-Behind x P e a = P (x ++ e) a
+-- a text that is an a once x comes before it
+abbrev After : {A : Type 0} → List ℕ → (List ℕ → A → Type 0) → List ℕ → A → Type 0
+After x P e a = P (x ++ e) a
 
 join-texts : (s mid rest e f : List ℕ) → s ≡ e ++ mid → mid ≡ f ++ rest → s ≡ e ++ f ++ rest
 join-texts s mid rest e f p q = rw (p, q, append-assoc e f rest)
 
 -- the byte v in front
-behind : {A : Type 0} (P Q : List ℕ → A → Type 0) (c v : ℕ) (s : List ℕ) (a : A) (rest : List ℕ) → eqb c v ≡ true
+after : {A : Type 0} (P Q : List ℕ → A → Type 0) (c v : ℕ) (s : List ℕ) (a : A) (rest : List ℕ) → eqb c v ≡ true
     → ((e : List ℕ) → P e a → Q (v ∷ e) a) → Begins P s a rest → Begins Q (c ∷ s) a rest
-behind P Q c v s a rest t f w = (v ∷ w .0, f (w .0) (w .1), cc (eqb-true c v t))
+after P Q c v s a rest t f w = (v ∷ w .0, f (w .0) (w .1), cc (eqb-true c v t))
 
 mapped-sound : {A B : Type 0} (f : A → B) (P : List ℕ → A → Type 0) (Q : List ℕ → B → Type 0) (x : Found A) (s : List ℕ) (b : B) (rest : List ℕ)
     → ((e : List ℕ) (a : A) → P e a → Q e (f a)) → ((a : A) → x ≡ found a rest → Begins P s a rest) → mapped f x ≡ found b rest → Begins Q s b rest
@@ -77,8 +77,8 @@ digits-sound (c ∷ s) d rest h = run-sound digit Digits (λ c s t a. Digits.dig
 signed-by : (b : Bool) (v c : ℕ) (s : List ℕ) (n : Numeral) (rest : List ℕ) → eqb c v ≡ true
     → ((d : List ℕ) → Unsigned d → Signed (v ∷ d) (numeral b d)) → mapped (numeral b) (unsigned s) ≡ found n rest → Begins Signed (c ∷ s) n rest
 signed-by b v c s n rest t make h =
-    behind (Behind (v ∷ []) Signed) Signed c v s n rest t (λ e x. x)
-    (mapped-sound (numeral b) (Itself Unsigned) (Behind (v ∷ []) Signed) (unsigned s) s n rest (λ e d u. rw (← (u .1)) (make e (u .0))) (λ d q. unsigned-sound s d rest q) h)
+    after (After (v ∷ []) Signed) Signed c v s n rest t (λ e x. x)
+    (mapped-sound (numeral b) (Itself Unsigned) (After (v ∷ []) Signed) (unsigned s) s n rest (λ e d u. rw (← (u .1)) (make e (u .0))) (λ d q. unsigned-sound s d rest q) h)
 
 -- an integer from its first byte on, with a sign where that byte is one
 integer-by : (c : ℕ) (s : List ℕ) (n : Numeral) (rest : List ℕ) → integer (c ∷ s) ≡ found n rest → Begins (λ e n. pick (sign c) (Signed e n) (Integer e n)) (c ∷ s) n rest
@@ -112,32 +112,32 @@ integer-sound (c ∷ s) n rest h = let w = integer-by c s n rest h in (w .0, any
 -- POWERS
 
 -- the byte v, a text that is its own value, and a closing bracket, after the integer i
-behind-integer : (i : List ℕ) (f : List ℕ → Written) (P : List ℕ → Type 0) (c v : ℕ) (x : Found (List ℕ)) (s : List ℕ) (w : Written) (rest : List ℕ) → eqb c v ≡ true
+after-integer : (i : List ℕ) (f : List ℕ → Written) (P : List ℕ → Type 0) (c v : ℕ) (x : Found (List ℕ)) (s : List ℕ) (w : Written) (rest : List ℕ) → eqb c v ≡ true
     → ((d : List ℕ) → P d → Bracketed (open-bracket ∷ i ++ v ∷ d ++ close-bracket ∷ []) (f d)) → ((d t : List ℕ) → x ≡ found d t → Begins (Itself P) s d t)
-    → closed f x ≡ found w rest → Begins (Behind (open-bracket ∷ i) Bracketed) (c ∷ s) w rest
-behind-integer i f P c v x s w rest t make ih h =
-    behind (Behind (v ∷ []) (Behind (open-bracket ∷ i) Bracketed)) (Behind (open-bracket ∷ i) Bracketed) c v s w rest t (λ e b. b)
-    (closed-sound f (Itself P) (Behind (v ∷ []) (Behind (open-bracket ∷ i) Bracketed)) x s w rest (λ e d u. rw (← (u .1), ← (append-assoc i (v ∷ e) (close-bracket ∷ []))) (make e (u .0))) ih h)
+    → closed f x ≡ found w rest → Begins (After (open-bracket ∷ i) Bracketed) (c ∷ s) w rest
+after-integer i f P c v x s w rest t make ih h =
+    after (After (v ∷ []) (After (open-bracket ∷ i) Bracketed)) (After (open-bracket ∷ i) Bracketed) c v s w rest t (λ e b. b)
+    (closed-sound f (Itself P) (After (v ∷ []) (After (open-bracket ∷ i) Bracketed)) x s w rest (λ e d u. rw (← (u .1), ← (append-assoc i (v ∷ e) (close-bracket ∷ []))) (make e (u .0))) ih h)
 
 -- what follows the integer i of a power in brackets
 bracketed-on-sound : (n : Numeral) (i : List ℕ) → Integer i n → (s : List ℕ) (w : Written) (rest : List ℕ) → bracketed-on n s ≡ found w rest
-    → Begins (Behind (open-bracket ∷ i) Bracketed) s w rest
+    → Begins (After (open-bracket ∷ i) Bracketed) s w rest
 unfolding bracketed-on
 bracketed-on-sound n i d [] w rest h = absurd (none-found h)
 bracketed-on-sound n i d (c ∷ s) w rest h = go (eqb c close-bracket) (eqb c point) (eqb c slash) refl refl refl h
   where
     go : (x y z : Bool) → eqb c close-bracket ≡ x → eqb c point ≡ y → eqb c slash ≡ z
         → pick x (found (whole n) s) (pick y (closed (decimal n) (digits s)) (pick z (closed (fraction n) (unsigned s)) none)) ≡ found w rest
-        → Begins (Behind (open-bracket ∷ i) Bracketed) (c ∷ s) w rest
+        → Begins (After (open-bracket ∷ i) Bracketed) (c ∷ s) w rest
     go true y z p q o h =
         let same : whole n ≡ w = cc in
         (close-bracket ∷ [], rw same at (Bracketed.an-integer d), cc (eqb-true c close-bracket p))
-    go false true z p q o h = behind-integer i (decimal n) Digits c point (digits s) s w rest q (λ e t. Bracketed.a-decimal (Decimal.pointed d t)) (λ e t q. digits-sound s e t q) h
-    go false false true p q o h = behind-integer i (fraction n) Unsigned c slash (unsigned s) s w rest o (λ e t. Bracketed.a-fraction d t) (λ e t q. unsigned-sound s e t q) h
+    go false true z p q o h = after-integer i (decimal n) Digits c point (digits s) s w rest q (λ e t. Bracketed.a-decimal (Decimal.pointed d t)) (λ e t q. digits-sound s e t q) h
+    go false false true p q o h = after-integer i (fraction n) Unsigned c slash (unsigned s) s w rest o (λ e t. Bracketed.a-fraction d t) (λ e t q. unsigned-sound s e t q) h
     go false false false p q o h = absurd (none-found h)
 
 -- a power in brackets, from after the opening one
-bracketed-sound : (s : List ℕ) (w : Written) (rest : List ℕ) → bracketed s ≡ found w rest → Begins (Behind (open-bracket ∷ []) Bracketed) s w rest
+bracketed-sound : (s : List ℕ) (w : Written) (rest : List ℕ) → bracketed s ≡ found w rest → Begins (After (open-bracket ∷ []) Bracketed) s w rest
 unfolding bracketed
 bracketed-sound s w rest h =
     let m = then-found (integer s) bracketed-on w rest h in
@@ -151,7 +151,7 @@ power-sound [] w rest h = absurd (none-found h)
 power-sound (c ∷ s) w rest h = go (eqb c open-bracket) refl h
   where
     go : (x : Bool) → eqb c open-bracket ≡ x → pick x (bracketed s) (mapped whole (integer (c ∷ s))) ≡ found w rest → Begins Power (c ∷ s) w rest
-    go true p h = behind (Behind (open-bracket ∷ []) Bracketed) Power c open-bracket s w rest p (λ e b. Power.bracketed b) (bracketed-sound s w rest h)
+    go true p h = after (After (open-bracket ∷ []) Bracketed) Power c open-bracket s w rest p (λ e b. Power.bracketed b) (bracketed-sound s w rest h)
     go false p h = mapped-sound whole Integer Power (integer (c ∷ s)) (c ∷ s) w rest (λ e n i. Power.integer i) (λ n q. integer-sound (c ∷ s) n rest q) h
 
 -- no power
@@ -168,8 +168,8 @@ starred-sound r c (d ∷ s) w rest f p h = go (eqb d star) refl h
   where
     go : (x : Bool) → eqb d star ≡ x → pick x (power s) (found unwritten (c ∷ d ∷ s)) ≡ found w rest → Begins (ExponentBy r) (c ∷ d ∷ s) w rest
     go true q h =
-        behind (Behind (star ∷ []) (ExponentBy r)) (ExponentBy r) c star (d ∷ s) w rest p (λ e b. b)
-        (behind Power (Behind (star ∷ []) (ExponentBy r)) d star s w rest q (λ e b. ExponentBy.stars f b) (power-sound s w rest h))
+        after (After (star ∷ []) (ExponentBy r)) (ExponentBy r) c star (d ∷ s) w rest p (λ e b. b)
+        (after Power (After (star ∷ []) (ExponentBy r)) d star s w rest q (λ e b. ExponentBy.stars f b) (power-sound s w rest h))
     go false q h = unpowered r (c ∷ d ∷ s) w rest h
 
 pub exponent-sound : (r : Rules) (s : List ℕ) (w : Written) (rest : List ℕ) → exponent r s ≡ found w rest → (e : List ℕ) × ExponentBy r e w × (s ≡ e ++ rest)
@@ -185,10 +185,10 @@ exponent-sound r (c ∷ s) w rest h =
         mapped-sound whole Integer (ExponentBy r) (integer (c ∷ s)) (c ∷ s) w rest
         (λ e n i. ExponentBy.integer (and-right (sign c || digit c) (r .direct) p) i) (λ n q. integer-sound (c ∷ s) n rest q) h
     go false true x y p q o l h =
-        behind (Behind (open-bracket ∷ []) Bracketed) (ExponentBy r) c open-bracket s w rest (and-left (eqb c open-bracket) (r .brackets) q)
+        after (After (open-bracket ∷ []) Bracketed) (ExponentBy r) c open-bracket s w rest (and-left (eqb c open-bracket) (r .brackets) q)
         (λ e b. ExponentBy.bracketed (and-right (eqb c open-bracket) (r .brackets) q) b) (bracketed-sound s w rest h)
     go false false true y p q o l h =
-        behind Power (ExponentBy r) c caret s w rest (and-left (eqb c caret) (r .caret) o) (λ e b. ExponentBy.caret (and-right (eqb c caret) (r .caret) o) b) (power-sound s w rest h)
+        after Power (ExponentBy r) c caret s w rest (and-left (eqb c caret) (r .caret) o) (λ e b. ExponentBy.caret (and-right (eqb c caret) (r .caret) o) b) (power-sound s w rest h)
     go false false false true p q o l h = starred-sound r c s w rest (and-right (eqb c star) (r .stars) l) (and-left (eqb c star) (r .stars) l) h
     go false false false false p q o l h = unpowered r (c ∷ s) w rest h
 
@@ -269,11 +269,11 @@ plain-sound (c ∷ s) e =
     rw (k, b) (plain-zeros (digit-one ∷ []) s 0 Plain.one (and-right (eqb c digit-one) (all (λ d. eqb d digit-zero) s) e))
 
 -- the digits ds are the factor, and nothing more is found after them
-plain-factor-sound : (r : Rules) (ds s : List ℕ) (f : Factor) (rest : List ℕ) → plain-factor r ds s ≡ found f rest → Begins (Behind ds (FactorBy r)) s f rest
+plain-factor-sound : (r : Rules) (ds s : List ℕ) (f : Factor) (rest : List ℕ) → plain-factor r ds s ≡ found f rest → Begins (After ds (FactorBy r)) s f rest
 unfolding plain-factor
 plain-factor-sound r ds s f rest h = go (plain-digits ds && r .plain) refl h
   where
-    go : (b : Bool) → (plain-digits ds && r .plain) ≡ b → pick b (found (zeros (length ds - 1)) s) none ≡ found f rest → Begins (Behind ds (FactorBy r)) s f rest
+    go : (b : Bool) → (plain-digits ds && r .plain) ≡ b → pick b (found (zeros (length ds - 1)) s) none ≡ found f rest → Begins (After ds (FactorBy r)) s f rest
     go true e h =
         let same : zeros (length ds - 1) ≡ f = cc in
         ([], rw (← same, append-nil ds) (FactorBy.plain (and-right (plain-digits ds) (r .plain) e) (plain-sound ds (and-left (plain-digits ds) (r .plain) e))), (cc))
@@ -288,40 +288,40 @@ wrapped-sound r Q make (c ∷ s) f rest h = go (eqb c open-bracket && r .wrapped
   where
     go : (b : Bool) → (eqb c open-bracket && r .wrapped) ≡ b → pick b (closed ten-to (integer s)) (mapped ten-to (integer (c ∷ s))) ≡ found f rest → Begins Q (c ∷ s) f rest
     go true e h =
-        behind (Behind (open-bracket ∷ []) Q) Q c open-bracket s f rest (and-left (eqb c open-bracket) (r .wrapped) e) (λ e q. q)
-        (closed-sound ten-to Integer (Behind (open-bracket ∷ []) Q) (integer s) s f rest
+        after (After (open-bracket ∷ []) Q) Q c open-bracket s f rest (and-left (eqb c open-bracket) (r .wrapped) e) (λ e q. q)
+        (closed-sound ten-to Integer (After (open-bracket ∷ []) Q) (integer s) s f rest
         (λ x n i. make (open-bracket ∷ x ++ close-bracket ∷ []) n (WrappedBy.bracketed (and-right (eqb c open-bracket) (r .wrapped) e) i)) (λ n t q. integer-sound s n t q) h)
     go false e h = mapped-sound ten-to Integer Q (integer (c ∷ s)) (c ∷ s) f rest (λ x n i. make x n (WrappedBy.bare i)) (λ n q. integer-sound (c ∷ s) n rest q) h
 
 -- two stars after the digits 10; c is the first star
 starred-factor-sound : (r : Rules) (c : ℕ) (s : List ℕ) (f : Factor) (rest : List ℕ) → eqb c star ≡ true → starred-factor r s ≡ found f rest
-    → Begins (Behind (digit-one ∷ digit-zero ∷ []) (FactorBy r)) (c ∷ s) f rest
+    → Begins (After (digit-one ∷ digit-zero ∷ []) (FactorBy r)) (c ∷ s) f rest
 unfolding starred-factor
 starred-factor-sound r c [] f rest p h = absurd (none-found h)
 starred-factor-sound r c (d ∷ s) f rest p h = go (eqb d star) refl h
   where
-    go : (b : Bool) → eqb d star ≡ b → pick b (wrapped r s) none ≡ found f rest → Begins (Behind (digit-one ∷ digit-zero ∷ []) (FactorBy r)) (c ∷ d ∷ s) f rest
+    go : (b : Bool) → eqb d star ≡ b → pick b (wrapped r s) none ≡ found f rest → Begins (After (digit-one ∷ digit-zero ∷ []) (FactorBy r)) (c ∷ d ∷ s) f rest
     go true q h =
-        behind (Behind (digit-one ∷ digit-zero ∷ star ∷ []) (FactorBy r)) (Behind (digit-one ∷ digit-zero ∷ []) (FactorBy r)) c star (d ∷ s) f rest p (λ e b. b)
-        (behind (Behind (digit-one ∷ digit-zero ∷ star ∷ star ∷ []) (FactorBy r)) (Behind (digit-one ∷ digit-zero ∷ star ∷ []) (FactorBy r)) d star s f rest q (λ e b. b)
-        (wrapped-sound r (Behind (digit-one ∷ digit-zero ∷ star ∷ star ∷ []) (FactorBy r)) (λ e n w. FactorBy.stars w) s f rest h))
+        after (After (digit-one ∷ digit-zero ∷ star ∷ []) (FactorBy r)) (After (digit-one ∷ digit-zero ∷ []) (FactorBy r)) c star (d ∷ s) f rest p (λ e b. b)
+        (after (After (digit-one ∷ digit-zero ∷ star ∷ star ∷ []) (FactorBy r)) (After (digit-one ∷ digit-zero ∷ star ∷ []) (FactorBy r)) d star s f rest q (λ e b. b)
+        (wrapped-sound r (After (digit-one ∷ digit-zero ∷ star ∷ star ∷ []) (FactorBy r)) (λ e n w. FactorBy.stars w) s f rest h))
     go false q h = absurd (none-found h)
 
 -- what is found after the digits 10
-ten-factor-sound : (r : Rules) (s : List ℕ) (f : Factor) (rest : List ℕ) → ten-factor r (digit-one ∷ digit-zero ∷ []) s ≡ found f rest → Begins (Behind (digit-one ∷ digit-zero ∷ []) (FactorBy r)) s f rest
+ten-factor-sound : (r : Rules) (s : List ℕ) (f : Factor) (rest : List ℕ) → ten-factor r (digit-one ∷ digit-zero ∷ []) s ≡ found f rest → Begins (After (digit-one ∷ digit-zero ∷ []) (FactorBy r)) s f rest
 unfolding ten-factor
 ten-factor-sound r [] f rest h = plain-factor-sound r (digit-one ∷ digit-zero ∷ []) [] f rest h
 ten-factor-sound r (c ∷ s) f rest h = go (sign c && r .signed) (eqb c caret && r .caret) (eqb c star) refl refl refl h
   where
     go : (x y z : Bool) → (sign c && r .signed) ≡ x → (eqb c caret && r .caret) ≡ y → eqb c star ≡ z
         → pick x (mapped ten-to (integer (c ∷ s))) (pick y (wrapped r s) (pick z (starred-factor r s) (plain-factor r (digit-one ∷ digit-zero ∷ []) (c ∷ s)))) ≡ found f rest
-        → Begins (Behind (digit-one ∷ digit-zero ∷ []) (FactorBy r)) (c ∷ s) f rest
+        → Begins (After (digit-one ∷ digit-zero ∷ []) (FactorBy r)) (c ∷ s) f rest
     go true y z p q o h =
-        mapped-sound ten-to Signed (Behind (digit-one ∷ digit-zero ∷ []) (FactorBy r)) (integer (c ∷ s)) (c ∷ s) f rest
+        mapped-sound ten-to Signed (After (digit-one ∷ digit-zero ∷ []) (FactorBy r)) (integer (c ∷ s)) (c ∷ s) f rest
         (λ e n i. FactorBy.signed (and-right (sign c) (r .signed) p) i) (λ n q. signed-sound c s n rest (and-left (sign c) (r .signed) p) q) h
     go false true z p q o h =
-        behind (Behind (digit-one ∷ digit-zero ∷ caret ∷ []) (FactorBy r)) (Behind (digit-one ∷ digit-zero ∷ []) (FactorBy r)) c caret s f rest (and-left (eqb c caret) (r .caret) q) (λ e b. b)
-        (wrapped-sound r (Behind (digit-one ∷ digit-zero ∷ caret ∷ []) (FactorBy r)) (λ e n w. FactorBy.caret (and-right (eqb c caret) (r .caret) q) w) s f rest h)
+        after (After (digit-one ∷ digit-zero ∷ caret ∷ []) (FactorBy r)) (After (digit-one ∷ digit-zero ∷ []) (FactorBy r)) c caret s f rest (and-left (eqb c caret) (r .caret) q) (λ e b. b)
+        (wrapped-sound r (After (digit-one ∷ digit-zero ∷ caret ∷ []) (FactorBy r)) (λ e n w. FactorBy.caret (and-right (eqb c caret) (r .caret) q) w) s f rest h)
     go false false true p q o h = starred-factor-sound r c s f rest o h
     go false false false p q o h = plain-factor-sound r (digit-one ∷ digit-zero ∷ []) (c ∷ s) f rest h
 
@@ -336,7 +336,7 @@ pub factor-sound : (r : Rules) (s : List ℕ) (f : Factor) (rest : List ℕ) →
 unfolding factor
 factor-sound r s f rest h = go (run digit s) (past digit s) (ten (run digit s)) refl (run-past digit s) h
   where
-    on : (ds t : List ℕ) → s ≡ ds ++ t → Begins (Behind ds (FactorBy r)) t f rest → Begins (FactorBy r) s f rest
+    on : (ds t : List ℕ) → s ≡ ds ++ t → Begins (After ds (FactorBy r)) t f rest → Begins (FactorBy r) s f rest
     on ds t q w = (ds ++ w .0, w .1, join-texts s t rest ds (w .0) q (w .2))
 
     go : (ds t : List ℕ) (b : Bool) → ten ds ≡ b → s ≡ ds ++ t → pick b (ten-factor r ds t) (plain-factor r ds t) ≡ found f rest → Begins (FactorBy r) s f rest

@@ -29,6 +29,7 @@ pub mod Bounds
 pub mod Lettering
 pub mod Figures
 pub mod Owned
+pub mod NameSpellings
 pub mod Spelled
 pub mod Rewritten
 pub mod Parts

@@ -2,24 +2,23 @@
 use Prim.Native.Nat.{ℕ, zero, suc, _+_, _≤_}
 use native.Mathlib.Omega.{arith}
 use mathlib.Core.Path.{_≡_, refl, sym, ap, _∙_}
-use mathlib.Core.Bool.{Bool, true, false, _&&_, _||_}
+use mathlib.Core.Bool.{Bool, true, false, _&&_}
 use mathlib.Core.List.{List, [], _∷_, _++_, append-assoc, append-nil}
 use mathlib.Core.Option.{Option, none, some}
-use lib.Dec.{T, eqb, leb, leb→le}
+use lib.Dec.{T, leb}
 use lib.IntN.{pos}
 use lib.ListN.{length, getD, length-append}
 use lib.Seq.{drop-at}
-use borrow.Author.Tests.{eqb-true, eq-eqb}
+use borrow.Author.Tests.{eqb-true}
 use Rattle.label.specs.declared.Rules.{Rules}
-use Rattle.label.specs.Notations.{member}
 use Rattle.label.specs.Bytes.{bytes, same, letter, all, past, percent, quote}
 use Rattle.label.specs.Choice.{pick}
 use Rattle.label.specs.Prefixes.{Prefix, prefix, prefixes, placed, prefix-named, is-some, prefix-name}
-use Rattle.label.specs.Units.{Name, KnownUnit, bare, ten-to, units, unit-at}
+use Rattle.label.specs.Units.{KnownUnit, bare, ten-to, units, unit-at}
 use Rattle.label.specs.Symbols.{Symbol, known, unknown, has-name, row-named, unit-named, Cut, follows, cut-by, cuts-from, cuts, KnownCut, known-by, known-among, known-cuts, longer, longest, by-longest, by-cut, by-whole, unquoted, by-quote, symbol}
 use Rattle.label.specs.Lexical.{Letters, PrefixName, Quoted}
 use Rattle.label.specs.Writing.{prefix-letters, same-prefix, in-quotes, own-letters}
-use Rattle.label.proofs.Basics.{none-some, false-true, both, T-and, T→true, true→T, same-is, differs, Stops, run-of, past-of}
+use Rattle.label.proofs.Basics.{none-some, false-true, both, T-and, T→true, same-is, differs, Stops, run-of, past-of}
 use Rattle.label.proofs.Computing.{symbols-compute}
 use Rattle.label.proofs.Texts.{all-append, all-weaker}
 use Rattle.label.proofs.General.{SpellingBy}
@@ -314,106 +313,3 @@ unfolding own-letters
 spelling-sourced {n} {s = s} o (SpellingBy.letters d) = owned-sourced (letters-all d) (letters-owned n d)
 spelling-sourced {n} o (SpellingBy.percent f) = rw (eqb-true n 3 (sym (o .percent) ∙ f)) percent-sourced
 spelling-sourced {n} o (SpellingBy.quoted f d) = let w = quoted-as n d in rw (w .reads) (Sourced.no-unit-name (w .spelled) (w .named))
-
--- NAMES ARE SPELLINGS
-
--- every name is letters, or the row has only the percent sign of CDS
-all-lettered : List Name → Bool
-all-lettered [] = true
-all-lettered (x ∷ xs) = (leb 1 (length (x .letters)) && all letter (x .letters)) && all-lettered xs
-
-only-three : List ℕ → Bool
-only-three [] = false
-only-three (n ∷ []) = eqb n 3
-only-three (n ∷ k ∷ ns) = false
-
-percent-row : List Name → Bool
-percent-row [] = false
-percent-row (x ∷ []) = same (x .letters) (percent ∷ []) && only-three (x .known-in)
-percent-row (x ∷ y ∷ xs) = false
-
-rows-spelled : List KnownUnit → Bool
-rows-spelled [] = true
-rows-spelled (u ∷ us) = (all-lettered (u .names) || percent-row (u .names)) && rows-spelled us
-
-units-spelled : T (rows-spelled units)
-unfolding rows-spelled all-lettered percent-row only-three symbols-compute
-units-spelled = tt
-
-row-spelled : (us : List KnownUnit) (i : ℕ) (d : KnownUnit) → T (rows-spelled us) → T (all-lettered (d .names)) → T (all-lettered (getD us i d .names) || percent-row (getD us i d .names))
-unfolding rows-spelled
-row-spelled [] i d t h = rw (T→true (all-lettered (d .names)) h) tt
-row-spelled (u ∷ us) zero d t h = both (all-lettered (u .names) || percent-row (u .names)) (rows-spelled us) t .0
-row-spelled (u ∷ us) (suc i) d t h = row-spelled us i d (both (all-lettered (u .names) || percent-row (u .names)) (rows-spelled us) t .1) h
-
--- a name of a row
-pub data Spelt (m : ℕ) (xs : List Name) (l : List ℕ) : Type 0 where
-  in-letters : Letters l → Spelt m xs l
-  in-percent : m ≡ 3 → l ≡ percent ∷ [] → ((n : ℕ) (k : List ℕ) → has-name n k xs ≡ true → k ≡ percent ∷ []) → Spelt m xs l
-
-lettered-name : (m : ℕ) (l : List ℕ) (xs : List Name) → T (all-lettered xs) → has-name m l xs ≡ true → Letters l
-unfolding all-lettered has-name
-lettered-name m l [] t h = absurd (false-true h)
-lettered-name m l (x ∷ xs) t h =
-    let w = both (leb 1 (length (x .letters)) && all letter (x .letters)) (all-lettered xs) t in
-    go (same l (x .letters)) (member m (x .known-in)) refl (λ h. lettered-name m l xs (w .1) h) (both (leb 1 (length (x .letters))) (all letter (x .letters)) (w .0)) h
-  where
-    go : (a b : Bool) → same l (x .letters) ≡ a → (has-name m l xs ≡ true → Letters l) → T (leb 1 (length (x .letters))) × T (all letter (x .letters))
-        → ((a && b) || has-name m l xs) ≡ true → Letters l
-    go true true e ih w h = rw (same-is l (x .letters) e) (all-letters (x .letters) (w .1) (leb→le 1 (length (x .letters)) (w .0)))
-    go true false e ih w h = ih h
-    go false b e ih w h = ih h
-
-single-name : (m : ℕ) (l : List ℕ) (x : Name) → has-name m l (x ∷ []) ≡ true → (l ≡ x .letters) × (member m (x .known-in) ≡ true)
-unfolding has-name
-single-name m l x h = go (same l (x .letters)) (member m (x .known-in)) refl refl h
-  where
-    go : (a b : Bool) → same l (x .letters) ≡ a → member m (x .known-in) ≡ b → ((a && b) || false) ≡ true → (l ≡ x .letters) × (member m (x .known-in) ≡ true)
-    go true true e f h = (same-is l (x .letters) e, f)
-    go true false e f h = absurd (false-true h)
-    go false b e f h = absurd (false-true h)
-
-three-member : (m : ℕ) (ns : List ℕ) → T (only-three ns) → member m ns ≡ true → m ≡ 3
-unfolding only-three member
-three-member m [] t h = absurd t
-three-member m (n ∷ []) t h = go (eqb m n) refl h
-  where
-    go : (b : Bool) → eqb m n ≡ b → (b || false) ≡ true → m ≡ 3
-    go true e h = eqb-true m n e ∙ eqb-true n 3 (T→true (eqb n 3) t)
-    go false e h = absurd (false-true h)
-three-member m (n ∷ k ∷ ns) t h = absurd t
-
-percent-name : (m : ℕ) (l : List ℕ) (xs : List Name) → T (percent-row xs) → has-name m l xs ≡ true → Spelt m xs l
-unfolding percent-row
-percent-name m l [] t h = absurd t
-percent-name m l (x ∷ []) t h =
-    let w = both (same (x .letters) (percent ∷ [])) (only-three (x .known-in)) t in
-    let q = same-is (x .letters) (percent ∷ []) (T→true (same (x .letters) (percent ∷ [])) (w .0)) in
-    let n = single-name m l x h in
-    Spelt.in-percent (three-member m (x .known-in) (w .1) (n .1)) (n .0 ∙ q) (λ i k g. single-name i k x g .0 ∙ q)
-percent-name m l (x ∷ y ∷ xs) t h = absurd t
-
-pub name-spelt : (m u : ℕ) (l : List ℕ) → has-name m l (unit-at u .names) ≡ true → Spelt m (unit-at u .names) l
-unfolding all-lettered
-name-spelt m u l h = go (all-lettered (unit-at u .names)) (percent-row (unit-at u .names)) refl refl (row-spelled units u _ units-spelled tt)
-  where
-    go : (a b : Bool) → all-lettered (unit-at u .names) ≡ a → percent-row (unit-at u .names) ≡ b → T (a || b) → Spelt m (unit-at u .names) l
-    go true b e f t = Spelt.in-letters (lettered-name m l (unit-at u .names) (true→T e) h)
-    go false true e f t = percent-name m l (unit-at u .names) (true→T f) h
-    go false false e f t = absurd t
-
-percent-no-letter : Letters (percent ∷ []) → ⊥
-unfolding all letter
-percent-no-letter d = letters-all d
-
-percent-flag : {m : ℕ} {r : Rules} → RuledBy m r → m ≡ 3 → r .percent ≡ true
-percent-flag {m} o e = o .percent ∙ eq-eqb m 3 e
-
--- a prefix and a name that notation m knows are a spelling there
-pub name-derived : {m : ℕ} {r : Rules} {own : List ℕ} (p : Option ℕ) (u : ℕ) (l : List ℕ) → RuledBy m r → Sourced own (known p u) → has-name m l (unit-at u .names) ≡ true → SpellingBy r (prefix-letters p ++ l)
-name-derived {m} {r} {own} p u l o s h = go (name-spelt m u l h) s
-  where
-    go : {q : Option ℕ} → Spelt m (unit-at u .names) l → Sourced own (known q u) → SpellingBy r (prefix-letters q ++ l)
-    go {q} (Spelt.in-letters d) s = SpellingBy.letters (letters-prefixed q d)
-    go (Spelt.in-percent e f g) (Sourced.bare-name n k) = rw f (SpellingBy.percent (percent-flag o e))
-    go (Spelt.in-percent e f g) (Sourced.letter-name n k d) = absurd (percent-no-letter (rw (g n own k) at d))

@@ -16,7 +16,7 @@ use Rattle.label.specs.Agreement.{Raised, raised-in, raised-term, bytes-
 use Rattle.label.proofs.Ruled.{derives-by}
 use Rattle.label.proofs.Derivations.{same-derivation}
 use Rattle.label.proofs.Refusals.{bounds, Values, valued-values, Outcome, outcome}
-use Rattle.label.proofs.Places.{AllStand, label-stands, stands-there}
+use Rattle.label.proofs.Places.{AllLocated, label-located, located-there}
 
 -- ONE REFUSAL OR ACCEPTANCE
 
@@ -133,11 +133,11 @@ unfolding term
 terms-raised n b [] = refl
 terms-raised n b (u ∷ us) = ap (λ (l : List Raised). raised-in n (spelled u) ∷ l) (terms-raised n b us)
 
-terms-placed : (n : ℕ) (s : List ℕ) {ps : List Part} {us : List Placed} → Values ps us → AllStand s ps
+terms-placed : (n : ℕ) (s : List ℕ) {ps : List Part} {us : List Placed} → Values ps us → AllLocated s ps
     → map (bytes-at s) (map (term n (length s)) us) ≡ map (λ (y : Spelled). y .spelling) (map spelled us)
 unfolding term
-terms-placed n s Values.no-values AllStand.none = refl
-terms-placed n s (Values.value {p = p} e vs) (AllStand.some d ds) = rw (stands-there d, terms-placed n s vs ds)
+terms-placed n s Values.no-values AllLocated.none = refl
+terms-placed n s (Values.value {p = p} e vs) (AllLocated.some d ds) = rw (located-there d, terms-placed n s vs ds)
 
 gives : {n : ℕ} {s : List ℕ} {v : Valued} → Accepted n s v → (r : Reading) → r ≡ reading-of n (v .k) (map (term n (length s)) (v .units)) → Gives n s (split-of v) r
 unfolding reading-of
@@ -145,7 +145,7 @@ gives {n} {s} {v} a r e = rw e (record {
   answers = refl;
   k = refl;
   terms = terms-raised n (length s) (v .units);
-  places = terms-placed n s (valued-values (a .factor) (a .parts) v (a .within)) (label-stands (derives-by (a .derived) .2));
+  places = terms-placed n s (valued-values (a .factor) (a .parts) v (a .within)) (label-located (derives-by (a .derived) .2));
 })
 
 pub accepted-gives : {n : ℕ} {s : List ℕ} {x : Split} → Accepts n s x → Gives n s x (reading n s)

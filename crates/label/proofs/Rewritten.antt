@@ -30,7 +30,7 @@ use Rattle.label.proofs.Joints.{opens}
 use Rattle.label.proofs.Complete.{item-begins}
 use Rattle.label.proofs.Ruled.{RuledBy, suited}
 use Rattle.label.proofs.Derivations.{derived-parsed}
-use Rattle.label.proofs.Places.{Stands, AllStand, label-stands, stands-there}
+use Rattle.label.proofs.Places.{Located, AllLocated, label-located, located-there}
 use Rattle.label.proofs.Figures.{Digited, figures-of, signed-size}
 use Rattle.label.proofs.Texts.{quiet, unsigned-quiet, spelling-quiet, Fine, fine-quiet, fine-append, fine-deepest}
 use Rattle.label.proofs.Styles.{Suits}
@@ -258,14 +258,14 @@ record Units (y : Style) (m : ℕ) (t : List ℕ) (ps : List Part) (ws : List Wr
   terms : map raised-term (map (term m (length t)) units) ≡ map raised ws
   again : Alike y m (map (writable t) (map (term m (length t)) units)) ws
 
-term-again : (y : Style) (m : ℕ) {t : List ℕ} {p : Part} (w : Writable) → Stands t p → symbol m (p .spelling) ≡ w .symbol → symbol-text y m (w .own) (w .symbol) ≡ some (p .spelling)
+term-again : (y : Style) (m : ℕ) {t : List ℕ} {p : Part} (w : Writable) → Located t p → symbol m (p .spelling) ≡ w .symbol → symbol-text y m (w .own) (w .symbol) ≡ some (p .spelling)
     → symbol-text y m (own-letters (symbol m (p .spelling)) (take (length (p .spelling)) (drop (length t - p .left) t))) (symbol m (p .spelling)) ≡ symbol-text y m (w .own) (w .symbol)
-term-again y m {t} {p} w d s h = rw (stands-there d, s) (symbol-again y m (w .own) (w .symbol) (p .spelling) h ∙ sym h)
+term-again y m {t} {p} w d s h = rw (located-there d, s) (symbol-again y m (w .own) (w .symbol) (p .spelling) h ∙ sym h)
 
-units-of : {y : Style} {m : ℕ} {t : List ℕ} {ps : List Part} {ws : List Writable} → Answers y m ps ws → AllStand t ps → Units y m t ps ws
+units-of : {y : Style} {m : ℕ} {t : List ℕ} {ps : List Part} {ws : List Writable} → Answers y m ps ws → AllLocated t ps → Units y m t ps ws
 unfolding valued-units valued-unit term writable
-units-of Answers.nothing AllStand.none = record { units = []; valued = refl; count = refl; terms = refl; again = Alike.nothing-else }
-units-of {y} {m} (Answers.next {p = p} {w = w} s e h a) (AllStand.some d ds) =
+units-of Answers.nothing AllLocated.none = record { units = []; valued = refl; count = refl; terms = refl; again = Alike.nothing-else }
+units-of {y} {m} (Answers.next {p = p} {w = w} s e h a) (AllLocated.some d ds) =
     let u = units-of a ds in
     record {
       units = record { spelling = p .spelling; exponent = w .exponent; left = p .left } ∷ u .units;
@@ -300,7 +300,7 @@ pub record ReadBack (m : ℕ) (k : Tens) (ws : List Writable) (t : List ℕ) (a 
 label-back : {y : Style} {m : ℕ} {r : Rules} {k : Tens} {ws : List Writable} {t : List ℕ} → style-of m ≡ some y → RuledBy m r → LabelRead y m r k ws t → length t ≤ 255 → length ws ≤ 32 → ReadBack m k ws t (reading m t)
 unfolding reading answered reading-of written written-by
 label-back {k = k} {t = t} e o d h g =
-    let u = units-of (d .answers) (label-stands (d .derived)) in
+    let u = units-of (d .answers) (label-located (d .derived)) in
     rw (label-checked o d u h g) (record { answers = refl; power = refl; terms = u .terms; again = rw e (label-alike k (u .again)) })
 
 -- WHAT IS WRITTEN IS READ BACK

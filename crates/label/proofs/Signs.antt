@@ -5,7 +5,7 @@ use mathlib.Core.Bool.{Bool, true, false, not, Bool·not-not}
 use mathlib.Core.List.{List, [], _∷_, _++_, map-append}
 use Rattle.label.specs.Lexical.{Written, Part, part, turn, turned-all}
 
--- the units as they stand under a sign
+-- the units as they are under a sign
 abbrev pub by : Bool → List Part → List Part
 by true ps = turned-all ps
 by false ps = ps

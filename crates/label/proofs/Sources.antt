@@ -27,7 +27,7 @@ use Rattle.label.specs.Writing.{Writable, own-letters, writable, written
 use Rattle.label.proofs.Basics.{none-some, false-true, and-left, and-right, nonzero-bounds}
 use Rattle.label.proofs.General.{ExponentBy, G, LabelBy}
 use Rattle.label.proofs.Parts.{PartBy, AllParts, label-parts}
-use Rattle.label.proofs.Places.{Stands, AllStand, label-stands, stands-there}
+use Rattle.label.proofs.Places.{Located, AllLocated, label-located, located-there}
 use Rattle.label.proofs.Owned.{spelling-sourced}
 use Rattle.label.proofs.Ruled.{RuledBy, derives-by}
 use Rattle.label.proofs.Refusals.{bounds, Values, valued-values, values-length}
@@ -119,16 +119,16 @@ writable-at n s p e = record {
 }
 
 module _ {n : ℕ} {r : Rules} (o : RuledBy n r) (s : List ℕ) where
-  part-ready : {p : Part} (e : Exponent) → PartBy r p → Stands s p → exponent-of (p .turned) (p .power) ≡ some e → Ready (writable-at n s p e)
+  part-ready : {p : Part} (e : Exponent) → PartBy r p → Located s p → exponent-of (p .turned) (p .power) ≡ some e → Ready (writable-at n s p e)
   part-ready {p} e d w h = record {
     within = exponent-within (p .turned) (p .power) e (exponent-nonzero (d .raised)) h;
-    sourced = rw (stands-there w) (spelling-sourced o (d .spelled));
+    sourced = rw (located-there w) (spelling-sourced o (d .spelled));
   }
 
-  units-ready : {ps : List Part} {us : List Placed} → AllParts r ps → AllStand s ps → Values ps us → AllReady (map (writable s) (map (term n (length s)) us))
+  units-ready : {ps : List Part} {us : List Placed} → AllParts r ps → AllLocated s ps → Values ps us → AllReady (map (writable s) (map (term n (length s)) us))
   unfolding writable term
-  units-ready AllParts.done AllStand.none Values.no-values = AllReady.done
-  units-ready (AllParts.also d ds) (AllStand.some w ws) (Values.value {e = e} h v) = AllReady.also (part-ready e d w h) (units-ready ds ws v)
+  units-ready AllParts.done AllLocated.none Values.no-values = AllReady.done
+  units-ready (AllParts.also d ds) (AllLocated.some w ws) (Values.value {e = e} h v) = AllReady.also (part-ready e d w h) (units-ready ds ws v)
 
 -- K
 
@@ -223,7 +223,7 @@ accepted-kept {n} {s} {v} a =
     let k = valued-k (a .factor) (a .parts) v (a .within) in
     let c = map-length (writable s) (map (term n (length s)) (v .units)) ∙ map-length (term n (length s)) (v .units) ∙ values-length u in
     record {
-      ready = units-ready (derives-by (a .derived) .1) s (label-parts d) (label-stands d) u;
+      ready = units-ready (derives-by (a .derived) .1) s (label-parts d) (label-located d) u;
       high = k-within (a .factor) (v .k) k;
       headed = λ e. k-headed d (v .k) k (sym c ∙ ap length e);
       few = rw c few;

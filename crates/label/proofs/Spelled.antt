@@ -27,7 +27,8 @@ use Rattle.label.proofs.Figures.{Digited, figures-of, Lowered, lowered,
 use Rattle.label.proofs.Texts.{quiet, all-append, unsigned-quiet, Fine, fine-quiet, fine-append, fine-brackets}
 use Rattle.label.proofs.Styles.{Suits, integer-by}
 use Rattle.label.proofs.Ruled.{RuledBy}
-use Rattle.label.proofs.Owned.{same-prefix-is, letters-prefixed, prefix-unquoted, quoted-symbol, Sourced, name-derived}
+use Rattle.label.proofs.Owned.{same-prefix-is, letters-prefixed, prefix-unquoted, quoted-symbol, Sourced}
+use Rattle.label.proofs.NameSpellings.{name-derived}
 
 -- EXPONENTS
 

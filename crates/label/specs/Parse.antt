@@ -121,7 +121,7 @@ unit r b s = then (spelling r s) (λ l t. mapped (λ w. record { spelling = l; p
 
 -- WHAT STANDS BETWEEN UNITS
 
--- any number of spaces, where spaces may stand around a star or a slash
+-- any number of spaces, where spaces may be around a star or a slash
 unfoldable pub padded : Rules → List ℕ → List ℕ
 padded r s = pick (r .spaces) (past (λ c. eqb c space) s) s
 
@@ -253,7 +253,7 @@ unfoldable pub one-space : List ℕ → List ℕ
 one-space [] = []
 one-space (c ∷ s) = pick (eqb c space) s (c ∷ s)
 
--- what may stand between the factor and the first unit
+-- what may be between the factor and the first unit
 unfoldable pub gap : Rules → List ℕ → List ℕ
 gap r s = pick (r .spaces) (past (λ c. eqb c space) s) (pick (r .space) (one-space s) s)
 

@@ -102,7 +102,7 @@ by-whole n l none = by-cut l (known-cuts n l)
 abbrev pub unquoted : ℕ → Bool
 unquoted c = not (eqb c quote)
 
--- "A quoted spelling is always unknown." p is what stands before the first quote, s what stands from there on.
+-- "A quoted spelling is always unknown." p is what comes before the first quote, s what comes from there on.
 unfoldable pub by-quote : ℕ → List ℕ → List ℕ → List ℕ → Symbol
 by-quote n l p [] = by-whole n l (unit-named n l)
 by-quote n l p (c ∷ s) = unknown (prefix-named p) (run unquoted s)

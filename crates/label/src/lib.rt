@@ -12,18 +12,18 @@ pub struct Rules {
     pub percent: bool,
     pub quotes: bool,
     // Exponents: an integer directly; a bracketed power directly; two stars and a power; a caret and a power. A caret may
-    // then also stand in a factor, in place of its two stars.
+    // then also be in a factor, in place of its two stars.
     pub direct: bool,
     pub brackets: bool,
     pub stars: bool,
     pub caret: bool,
-    // Products: by one space; by any number of spaces, which may also stand around a star or a slash; by a star; by a point.
+    // Products: by one space; by any number of spaces, which may also be around a star or a slash; by a star; by a point.
     // Where one space joins, one may follow a factor; where any number joins, any number may.
     pub space: bool,
     pub spaces: bool,
     pub star: bool,
     pub point: bool,
-    // Slashes: each turns over the next unit or group, and one may lead (else at most one stands, before the last unit or
+    // Slashes: each turns over the next unit or group, and one may lead (else there is at most one, before the last unit or
     // group of the whole); one before the last unit or group of a group; one before the only unit or group of the whole.
     pub each: bool,
     pub within: bool,

@@ -11,7 +11,7 @@ use Rattle.label.specs.Choice.{pick}
 use Rattle.label.specs.Prefixes.{Prefix, prefixes, placed, prefix-named}
 use Rattle.label.specs.Units.{KnownUnit, units}
 use Rattle.label.specs.Symbols.{Symbol, known, unknown, has-name, row-named, unit-named, KnownCut, cuts, known-cuts, longest, by-longest, by-cut, by-whole, by-quote, unquoted, symbol}
-use Rattle.symbols.specs.Views.{with-rest, prefix-cut, behind, unit-cut}
+use Rattle.symbols.specs.Views.{with-rest, prefix-cut, after-prefix, unit-cut}
 use Rattle.symbols.proofs.SymbolLaws.{chosen, by-cut-is}
 use Rattle.record.specs.Record.{code, prefix-code, unit-code}
 
@@ -60,7 +60,7 @@ unit-cut-small : (n k : ℕ) (l : List ℕ) → code (unit-cut n k l) < 2 ^ 8
 unfolding unit-cut
 unit-cut-small n k l = go (prefix-cut k l) (unit-named n (drop k l)) (unit-small n (drop k l))
   where
-    go : (p u : Option ℕ) → code u < 2 ^ 8 → code (behind p u) < 2 ^ 8
+    go : (p u : Option ℕ) → code u < 2 ^ 8 → code (after-prefix p u) < 2 ^ 8
     go none u h = omega arith
     go (some i) u h = h
 

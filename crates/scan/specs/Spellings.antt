@@ -11,7 +11,7 @@ use Rattle.label.specs.Ranges.{between}
 use Rattle.scan.specs.Founds.{found-by}
 use Rattle.scan.specs.declared.spelling.Spelling.{Spelling}
 
--- a quote stands at q, and a spelling that it is in starts at a
+-- a quote is at q, and a spelling that it is in starts at a
 pub record QuoteAt (s : List ℕ) (a q : ℕ) : Type 0 where
   pub forward : a ≤ q
   pub within : q < length s

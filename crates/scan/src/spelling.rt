@@ -27,7 +27,7 @@ pub fn is_prefix_name(s: &[u8], start: usize, end: usize) -> bool
     0 < prefix_named(&prefixes, s, start, end)
 }
 
-// Letters and a closing quote, after the quote at `at`. The spelling starts at `start`: a prefix may stand there.
+// Letters and a closing quote, after the quote at `at`. The spelling starts at `start`: a prefix may be there.
 pub fn quoted_from(s: &[u8], start: usize, at: usize) -> Spelling
     requires { ⌜ QuoteAt (now s) start at ⌝ }
     ensures { λ o. ⌜ Quoted (now (s .entry)) start at o ⌝ }

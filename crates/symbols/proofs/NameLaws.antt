@@ -85,7 +85,7 @@ pub names-count : length names ≡ 67
 unfolding columns-compute
 names-count = refl
 
--- what stands past the end
+-- what is past the end
 unfoldable pub nobody : Entry
 nobody = record { letters = []; known-in = []; unit = 0 }
 

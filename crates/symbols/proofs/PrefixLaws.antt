@@ -35,7 +35,7 @@ prefixes-count : length prefixes ≡ 20
 unfolding columns-compute
 prefixes-count = refl
 
--- what stands past the end
+-- what is past the end
 unfoldable pub nothing : Prefix
 nothing = record { name = []; power = record { 0 = pos 0 } }
 

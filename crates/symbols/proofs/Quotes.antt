@@ -13,7 +13,7 @@ use Rattle.label.specs.Symbols.{unquoted}
 use Rattle.symbols.specs.Views.{FirstQuote}
 use Rattle.label.proofs.Between.{between-none, between-cons, between-join}
 
--- no quote stands from start up to i
+-- no quote is from start up to i
 pub record Passed (s : List ℕ) (start end i : ℕ) : Type 0 where
   pub from : start ≤ i
   pub upto : i ≤ end

@@ -1,4 +1,4 @@
--- Laws of any table: a test that every row passes, the search of the first row that passes one, and what stands past the end.
+-- Laws of any table: a test that every row passes, the search of the first row that passes one, and what is past the end.
 use Prim.Native.Nat.{ℕ, zero, suc, _+_, _≤_, _<_}
 use native.Mathlib.Omega.{arith}
 use native.Mathlib.Numerals.{add-one}
@@ -18,7 +18,7 @@ unfoldable pub every : {A : Type 0} → (A → Bool) → List A → Bool
 every p [] = true
 every p (x ∷ xs) = p x && every p xs
 
--- what every row passes, and what stands past the end too, is passed at any place
+-- what every row passes, and what is past the end too, is passed at any place
 pub every-at : {A : Type 0} (p : A → Bool) (xs : List A) (d : A) → T (every p xs) → T (p d) → (i : ℕ) → T (p (getD xs i d))
 unfolding every
 every-at p [] d t u i = u

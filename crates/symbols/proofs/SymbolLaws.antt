@@ -16,7 +16,7 @@ use Rattle.label.specs.Prefixes.{prefix-named}
 use Rattle.label.specs.Ranges.{between}
 use Rattle.symbols.specs.declared.Cut.{Cut as Cutting}
 use Rattle.symbols.specs.declared.Symbol.{Symbol as Coded}
-use Rattle.symbols.specs.Views.{place, symbol-in, behind, prefix-cut, unit-cut, Bounded, LettersAt, CutAt, FirstPrefixed, FirstQuote}
+use Rattle.symbols.specs.Views.{place, symbol-in, after-prefix, prefix-cut, unit-cut, Bounded, LettersAt, CutAt, FirstPrefixed, FirstQuote}
 use Rattle.symbols.proofs.CutLaws.{cut-list, two-then-one}
 use Rattle.label.proofs.Between.{between-none, between-cons, length-between, take-between, drop-between}
 
@@ -70,7 +70,7 @@ by-cuts-are l cs [] e = rw e
 two-cuts : (n : ℕ) (l a b : List ℕ) (p q : Option ℕ) (u v : Option ℕ) → unit-named n a ≡ u → unit-named n b ≡ v
     → a ≡ drop 2 l → b ≡ drop 1 l → leb (length a) (length b) ≡ true
     → by-cuts l (cut-list p a ++ cut-list q b) (known-among n (cut-list p a) ++ known-among n (cut-list q b))
-    ≡ chosen l p (behind p u) q (behind q v)
+    ≡ chosen l p (after-prefix p u) q (after-prefix q v)
 unfolding by-cuts cut-list known-among known-by by-longest longest longer chosen
 two-cuts n l a b none none u v e f c d h = refl
 two-cuts n l a b none (some j) u none e f c d h = rw (f, d)
@@ -124,30 +124,30 @@ module _ (k : ℕ) (s : List ℕ) (start end : ℕ) (h : start ≤ end) (g : end
     }
 
 -- what follows a prefix counts
-pub after-prefix : (p : ℕ) → (p ≡ 0 → ⊥) → (o : Option ℕ) → o ≡ behind (place p) o
-after-prefix p z o = rw (placed-at p (omega arith))
+pub with-prefix : (p : ℕ) → (p ≡ 0 → ⊥) → (o : Option ℕ) → o ≡ after-prefix (place p) o
+with-prefix p z o = rw (placed-at p (omega arith))
 
 -- the unit after a cut, of which u is one more than the row
 unit-after-cut : (n : ℕ) {k : ℕ} {s : List ℕ} {start end : ℕ} {r : Cutting} → CutAt k s start end r → (u : ℕ)
-    → place u ≡ behind (place (r .prefix)) (unit-named n (between s (r .rest) end)) → place u ≡ unit-cut n k (between s start end)
+    → place u ≡ after-prefix (place (r .prefix)) (unit-named n (between s (r .rest) end)) → place u ≡ unit-cut n k (between s start end)
 unfolding unit-cut
 unit-after-cut n {k} {s} {start} {end} {r} w u e = e ∙ go (leb (r .prefix) 0) refl
   where
     go : (x : Bool) → leb (r .prefix) 0 ≡ x
-        → behind (place (r .prefix)) (unit-named n (between s (r .rest) end)) ≡ behind (prefix-cut k (between s start end)) (unit-named n (drop k (between s start end)))
+        → after-prefix (place (r .prefix)) (unit-named n (between s (r .rest) end)) ≡ after-prefix (prefix-cut k (between s start end)) (unit-named n (drop k (between s start end)))
     go true f = rw (← w .prefix-is, placed-none (r .prefix) (leb-true (r .prefix) 0 f))
     go false f = rw (← w .prefix-is, drop-between s start end k, w .after (leb-false (r .prefix) 0 f))
 
 -- THE CHOICE
 
 module _ (n : ℕ) {s : List ℕ} {start end : ℕ} {two : Cutting} (a : CutAt 2 s start end two) (u : ℕ)
-    (d : place u ≡ behind (place (two .prefix)) (unit-named n (between s (two .rest) end))) where
+    (d : place u ≡ after-prefix (place (two .prefix)) (unit-named n (between s (two .rest) end))) where
   pub first-known : 0 < u → known (place (two .prefix)) (u - 1) ≡ by-cut (between s start end) (known-cuts n (between s start end))
   unfolding chosen
   first-known h = sym (by-cut-is n (between s start end) ∙ rw (← a .prefix-is, ← unit-after-cut n a u d, placed-at u h))
 
   module _ (z : u ≤ 0) {one : Cutting} (b : CutAt 1 s start end one) (v : ℕ)
-      (e : place v ≡ behind (place (one .prefix)) (unit-named n (between s (one .rest) end))) where
+      (e : place v ≡ after-prefix (place (one .prefix)) (unit-named n (between s (one .rest) end))) where
     chosen-is : by-cut (between s start end) (known-cuts n (between s start end))
         ≡ chosen (between s start end) (place (two .prefix)) none (place (one .prefix)) (place v)
     chosen-is =

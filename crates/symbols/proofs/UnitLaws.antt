@@ -29,7 +29,7 @@ use Rattle.symbols.proofs.SetLaws.{alike, told-by-bits, bit-member}
 use Rattle.symbols.proofs.SymbolLaws.{placed-at}
 use Rattle.symbols.proofs.RowLaws.{every, every-at}
 
--- what stands past the end
+-- what is past the end
 abbrev no-unit : KnownUnit
 no-unit = bare [] (ten-to (pos 0) [])
 

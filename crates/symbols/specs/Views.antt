@@ -38,7 +38,7 @@ pub record Bounded (start end : ℕ) (x : Symbol) : Type 0 where
 pub record UpTo (end : ℕ) (x : Symbol) : Type 0 where
   pub last : x .known ≡ false → x .end ≡ end
 
--- the first quote of s from start up to end stands at r, or r is the end
+-- the first quote of s from start up to end is at r, or r is the end
 pub record FirstQuote (s : List ℕ) (start end r : ℕ) : Type 0 where
   pub from : start ≤ r
   pub upto : r ≤ end
@@ -62,14 +62,14 @@ with-rest p (c ∷ l) = p
 unfoldable pub prefix-cut : ℕ → List ℕ → Option ℕ
 prefix-cut k l = with-rest (prefix-named (take k l)) (drop k l)
 
--- a unit, where it stands after a prefix
-abbrev pub behind : Option ℕ → Option ℕ → Option ℕ
-behind none u = none
-behind (some i) u = u
+-- a unit, where it comes after a prefix
+abbrev pub after-prefix : Option ℕ → Option ℕ → Option ℕ
+after-prefix none u = none
+after-prefix (some i) u = u
 
 -- the unit that notation n knows by the letters of l after a prefix of k letters
 unfoldable pub unit-cut : ℕ → ℕ → List ℕ → Option ℕ
-unit-cut n k l = behind (prefix-cut k l) (unit-named n (drop k l))
+unit-cut n k l = after-prefix (prefix-cut k l) (unit-named n (drop k l))
 
 -- the bytes of s from start up to end, cut after their first k letters
 pub record CutAt (k : ℕ) (s : List ℕ) (start end : ℕ) (r : Cut) : Type 0 where

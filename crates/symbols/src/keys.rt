@@ -47,7 +47,7 @@ pub fn has_notation(n: u8, set: u8) -> bool
     (set >> (n - 1)) % 2 == 1
 }
 
-// Where the first quote from `start` up to `end` stands, or `end`.
+// Where the first quote from `start` up to `end` is, or `end`.
 pub fn first_quote(s: &[u8], start: usize, end: usize) -> usize
     requires { ⌜ (start ≤ end) × (end ≤ length (now s)) ⌝ }
     ensures { λ r. ⌜ FirstQuote (now (s .entry)) start end r ⌝ }

@@ -19,7 +19,7 @@ ghost use Rattle.label.specs.Symbols.{known, unknown, unit-named, known-cuts, b
 ghost use Rattle.symbols.specs.Keys.{agrees};
 ghost use Rattle.symbols.specs.Sets.{has-bit};
 ghost use Rattle.symbols.specs.Columns.{NameColumns, prefix-codes};
-ghost use Rattle.symbols.specs.Views.{place, symbol-in, Bounded, UpTo, LettersAt, behind, CutAt, FirstPrefixed};
+ghost use Rattle.symbols.specs.Views.{place, symbol-in, Bounded, UpTo, LettersAt, after-prefix, CutAt, FirstPrefixed};
 
 // How many names and prefixes the tables have, and how many letters a key can hold.
 const NAMES: usize = 67;
@@ -106,7 +106,7 @@ fn known_symbol(prefix: u8, unit: u8) -> Symbol
     }
 }
 
-// An unknown symbol, whose letters stand from `start` up to `end`.
+// An unknown symbol, whose letters are from `start` up to `end`.
 fn unknown_symbol(prefix: u8, start: usize, end: usize) -> Symbol
     requires { ⌜ start ≤ end ⌝ }
     ensures { λ r. ⌜ ((s : List ℕ) → symbol-in s r ≡ unknown (place prefix) (between s start end)) ⌝ }
@@ -151,7 +151,7 @@ fn cut(prefixes: &[u32], s: &[u8], span: Span, count: usize) -> Cut
 fn unit_after(keys: &[u64], codes: &[u32], n: u8, s: &[u8], cut: Cut, end: usize) -> u8
     requires { ⌜ NameColumns (now keys) (now codes) ⌝ }
     requires { ⌜ (cut .rest ≤ end) × (end ≤ length (now s)) ⌝ }
-    ensures { λ r. ⌜ place r ≡ behind (place (cut .prefix)) (unit-named n (between (now (s .entry)) (cut .rest) end)) ⌝ }
+    ensures { λ r. ⌜ place r ≡ after-prefix (place (cut .prefix)) (unit-named n (between (now (s .entry)) (cut .rest) end)) ⌝ }
 {
     if cut.prefix == 0 {
         return 0;

@@ -120,7 +120,7 @@ pub fn starred_factor(r: Rules, s: &[u8], at: usize) -> FactorAt
     }
 }
 
-// What follows the digits 10, which stand from `start` up to `end`.
+// What follows the digits 10, which are from `start` up to `end`.
 pub fn ten_factor(r: Rules, s: &[u8], start: usize, end: usize) -> FactorAt
     requires { ⌜ start ≤ end ⌝ }
     requires { ⌜ end ≤ length (now s) ⌝ }

@@ -29,7 +29,7 @@ pub struct PowerAt {
     pub power: WrittenPower,
 }
 
-// Whether a closing bracket stands at `at`.
+// Whether a closing bracket is at `at`.
 pub fn closes(s: &[u8], at: usize) -> bool
     requires { ⌜ at ≤ length (now s) ⌝ }
     ensures { λ r. ⌜ r ≡ begins close-bracket (drop at (now (s .entry))) ⌝ }
@@ -37,7 +37,7 @@ pub fn closes(s: &[u8], at: usize) -> bool
     byte_at(s, at) == b')'
 }
 
-// The power that digits end, where the closing bracket stands after them.
+// The power that digits end, where the closing bracket comes after them.
 pub fn closed_power(s: &[u8], d: DigitsAt, power: WrittenPower) -> PowerAt
     requires { ⌜ Inside (now s) (d .digits) ⌝ }
     requires { ⌜ PowerInside (now s) power ⌝ }
@@ -132,7 +132,7 @@ pub fn power(s: &[u8], at: usize) -> PowerAt
     whole(integer(s, at))
 }
 
-// Two stars and a power, or no power. A star stands at `at`.
+// Two stars and a power, or no power. A star is at `at`.
 pub fn starred(s: &[u8], at: usize) -> PowerAt
     requires { ⌜ at < length (now s) ⌝ }
     ensures { λ o. ⌜ ReadsPower (starred (drop at (now (s .entry))) (drop (at + 1) (now (s .entry)))) (now (s .entry)) at o ⌝ }

@@ -31,7 +31,7 @@ pub fn are_short(a: Digits, b: Digits) -> bool
     false
 }
 
-// What a byte counts as a digit: 0 where it stands below the digits.
+// What a byte counts as a digit: 0 where it is below the digits.
 fn digit_value(c: u8) -> u32
     ensures { λ r. ⌜ (r ≡ c - digit-zero) × (r ≤ 207) ⌝ }
 {

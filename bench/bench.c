@@ -34,14 +34,12 @@ static uint8_t record[ROOM_FOR_RECORD];
 
 /* LABELS */
 
-static void fail(const char *what, uint32_t notation, const uint8_t *label, size_t size)
-{
+static void fail(const char *what, uint32_t notation, const uint8_t *label, size_t size) {
     printf("%s: notation %u, %.*s\n", what, (unsigned)notation, (int)size, (const char *)label);
     exit(1);
 }
 
-static void read_list(uint32_t notation)
-{
+static void read_list(uint32_t notation) {
     static char bytes[NOTATIONS + 1][LABEL_BYTES];
     struct list *list = &lists[notation];
     FILE *f = fopen(files[notation], "r");
@@ -65,8 +63,7 @@ static void read_list(uint32_t notation)
 }
 
 /* whether the reader in plain C gives the library's answer and record, and the reader before the same answer */
-static uint32_t check_label(uint32_t notation, const uint8_t *label, size_t size)
-{
+static uint32_t check_label(uint32_t notation, const uint8_t *label, size_t size) {
     static uint8_t ours[THALINGUZE_RECORD_SIZE], plain[THALINGUZE_RECORD_SIZE];
     memset(ours, 0x55, sizeof ours);
     memset(plain, 0x55, sizeof plain);
@@ -78,8 +75,7 @@ static uint32_t check_label(uint32_t notation, const uint8_t *label, size_t size
     return number;
 }
 
-static void check_all(void)
-{
+static void check_all(void) {
     static uint8_t label[LABEL_ROOM];
     unsigned long accepted = 0;
     for (uint32_t notation = 1; notation <= NOTATIONS; notation++)
@@ -97,15 +93,13 @@ static void check_all(void)
 /* TIME */
 
 /* the processor's time, so that other programs count little */
-static double now(void)
-{
+static double now(void) {
     struct timespec t;
     clock_gettime(CLOCK_THREAD_CPUTIME_ID, &t);
     return (double)t.tv_sec * 1e9 + (double)t.tv_nsec;
 }
 
-static double time_once(reader *read, const struct list *list, unsigned passes)
-{
+static double time_once(reader *read, const struct list *list, unsigned passes) {
     volatile uint32_t sink = 0;
     double from = now();
     for (unsigned pass = 0; pass < passes; pass++)
@@ -115,8 +109,7 @@ static double time_once(reader *read, const struct list *list, unsigned passes)
 }
 
 /* the best time a label of each reader that is not NULL */
-static void time_readers(reader *const *readers, double *best, const struct list *list, unsigned passes)
-{
+static void time_readers(reader *const *readers, double *best, const struct list *list, unsigned passes) {
     for (unsigned i = 0; i < MAX_READERS; i++)
         best[i] = 1e18;
     for (unsigned round = 0; round < ROUNDS; round++)
@@ -127,8 +120,7 @@ static void time_readers(reader *const *readers, double *best, const struct list
             }
 }
 
-static void print_row_beside(const char *name, const double *ns)
-{
+static void print_row_beside(const char *name, const double *ns) {
     printf("| %s | %.0f | %.0f | %.2f |", name, ns[0], ns[1], ns[0] / ns[1]);
     if (read_before)
         printf(" %.0f | %.2f |", ns[2], ns[0] / ns[2]);
@@ -136,8 +128,7 @@ static void print_row_beside(const char *name, const double *ns)
 }
 
 /* the library, the reader in plain C and the reader before */
-static void table_of_readers(void)
-{
+static void table_of_readers(void) {
     reader *const readers[MAX_READERS] = {thalinguze_read, bench_read, read_before};
     double ns[MAX_READERS], sums[MAX_READERS] = {0};
     printf("| ns a label | library | plain C | library / plain C |%s\n", read_before ? " before | library / before |" : "");
@@ -153,8 +144,7 @@ static void table_of_readers(void)
 }
 
 /* another call beside reading; the limit is 2.5 times a reading */
-static void table_of_calls(const char *name, reader *call)
-{
+static void table_of_calls(const char *name, reader *call) {
     reader *const readers[MAX_READERS] = {call, thalinguze_read, NULL};
     double ns[MAX_READERS], most = 0;
     printf("| ns a label | %s | reading | ratio |\n|---|---|---|---|\n", name);
@@ -166,8 +156,7 @@ static void table_of_calls(const char *name, reader *call)
     printf("\nAt most 2.5 times a reading: %s, %.2f.\n\n", most <= 2.5 ? "reached" : "not reached", most);
 }
 
-static struct list taken_by(reader *read, const struct list *from)
-{
+static struct list taken_by(reader *read, const struct list *from) {
     struct list taken = {.notation = from->notation};
     for (unsigned i = 0; i < from->count; i++)
         if (read(from->notation, from->texts[i].bytes, from->texts[i].size, record, sizeof record) == 0)
@@ -176,8 +165,7 @@ static struct list taken_by(reader *read, const struct list *from)
 }
 
 /* another library, on the labels that it takes; the ratio on FITS labels */
-static double table_beside(const char *name, reader *read)
-{
+static double table_beside(const char *name, reader *read) {
     double of_fits = 0;
     if (!read) {
         printf("Not measured beside %s: it is not installed.\n\n", name);
@@ -201,8 +189,7 @@ static double table_beside(const char *name, reader *read)
 /* GROWTH */
 
 /* one label in each notation: time, and the largest use of stack */
-static void print_growth(const char *what, unsigned number, uint8_t made[NOTATIONS + 1][LABEL_ROOM], const size_t *sizes)
-{
+static void print_growth(const char *what, unsigned number, uint8_t made[NOTATIONS + 1][LABEL_ROOM], const size_t *sizes) {
     reader *const readers[MAX_READERS] = {thalinguze_read, NULL, read_before};
     size_t most = 0, most_before = 0, largest = 0;
     printf("| %s %u |", what, number);
@@ -231,8 +218,7 @@ static void print_growth(const char *what, unsigned number, uint8_t made[NOTATIO
 }
 
 /* the opening so many times, the core, and the closing as many times; an opening of one sign for each notation */
-static void growth_row(const char *what, unsigned times, const char *const *opening, const char *core, const char *closing)
-{
+static void growth_row(const char *what, unsigned times, const char *const *opening, const char *core, const char *closing) {
     static uint8_t made[NOTATIONS + 1][LABEL_ROOM];
     size_t sizes[NOTATIONS + 1] = {0};
     for (uint32_t notation = 1; notation <= NOTATIONS; notation++) {
@@ -245,8 +231,7 @@ static void growth_row(const char *what, unsigned times, const char *const *open
     print_growth(what, times + (core[0] != 0 && closing[0] == 0), made, sizes);
 }
 
-static void table_of_growth(void)
-{
+static void table_of_growth(void) {
     static const char *const letters[] = {"", "x", "x", "x", "x"}, *const joined[] = {"", "km ", "km ", "km.", "km."};
     static const char *const brackets[] = {"", "(", "(", "(", "("};
     static const unsigned bytes[] = {0, 1, 7, 31, 127, 254}, terms[] = {1, 2, 4, 8, 16, 24, 32}, depths[] = {1, 2, 3, 4, 5, 6, 7, 8, 127};
@@ -263,8 +248,7 @@ static void table_of_growth(void)
     printf("\n");
 }
 
-int main(void)
-{
+int main(void) {
     bench_prepare();
     prepare_others();
     read_vectors("vectors/readings.tsv");

@@ -6,8 +6,7 @@
 #ifdef HAVE_WCSLIB
 #include <wcslib/wcsunits.h>
 
-static uint32_t by_wcslib(uint32_t notation, const uint8_t *label, size_t label_size, uint8_t *record, size_t record_size)
-{
+static uint32_t by_wcslib(uint32_t notation, const uint8_t *label, size_t label_size, uint8_t *record, size_t record_size) {
     (void)notation, (void)label_size, (void)record, (void)record_size;
     double units[WCSUNITS_NTYPE], scale;
     int function;
@@ -23,8 +22,7 @@ reader *const read_by_wcslib = NULL;
 
 static ut_system *units_of_udunits;
 
-static uint32_t by_udunits(uint32_t notation, const uint8_t *label, size_t label_size, uint8_t *record, size_t record_size)
-{
+static uint32_t by_udunits(uint32_t notation, const uint8_t *label, size_t label_size, uint8_t *record, size_t record_size) {
     (void)notation, (void)label_size, (void)record, (void)record_size;
     ut_unit *unit = ut_parse(units_of_udunits, (const char *)label, UT_ASCII);
     if (unit == NULL)
@@ -34,8 +32,7 @@ static uint32_t by_udunits(uint32_t notation, const uint8_t *label, size_t label
 }
 reader *const read_by_udunits = by_udunits;
 
-void prepare_others(void)
-{
+void prepare_others(void) {
     ut_set_error_message_handler(ut_ignore);
     units_of_udunits = ut_read_xml(NULL);
     if (units_of_udunits == NULL) {
@@ -46,7 +43,6 @@ void prepare_others(void)
 #else
 reader *const read_by_udunits = NULL;
 
-void prepare_others(void)
-{
+void prepare_others(void) {
 }
 #endif

@@ -22,44 +22,38 @@ struct parser {
 
 /* BYTES */
 
-static bool next_is(const struct parser *p, uint8_t byte)
-{
+static bool next_is(const struct parser *p, uint8_t byte) {
     return p->at < p->end && *p->at == byte;
 }
 
-static bool take(struct parser *p, uint8_t byte)
-{
+static bool take(struct parser *p, uint8_t byte) {
     bool there = next_is(p, byte);
     p->at += there;
     return there;
 }
 
-static bool take_stars(struct parser *p)
-{
+static bool take_stars(struct parser *p) {
     if (p->end - p->at < 2 || p->at[0] != '*' || p->at[1] != '*')
         return false;
     p->at += 2;
     return true;
 }
 
-static unsigned take_spaces(struct parser *p)
-{
+static unsigned take_spaces(struct parser *p) {
     unsigned count = 0;
     while (p->notation == OGIP && take(p, ' '))
         count++;
     return count;
 }
 
-static bool take_letters(struct parser *p)
-{
+static bool take_letters(struct parser *p) {
     const uint8_t *from = p->at;
     while (p->at < p->end && ((*p->at | 0x20) >= 'a' && (*p->at | 0x20) <= 'z'))
         p->at++;
     return p->at > from;
 }
 
-static bool open_bracket(struct parser *p)
-{
+static bool open_bracket(struct parser *p) {
     if (!take(p, '('))
         return false;
     if (++p->depth > p->deepest)
@@ -67,16 +61,14 @@ static bool open_bracket(struct parser *p)
     return true;
 }
 
-static bool close_bracket(struct parser *p)
-{
+static bool close_bracket(struct parser *p) {
     p->depth--;
     return take(p, ')');
 }
 
 /* NUMBERS */
 
-static unsigned digits(struct parser *p, int *value)
-{
+static unsigned digits(struct parser *p, int *value) {
     unsigned count = 0;
     for (*value = 0; p->at < p->end && *p->at >= '0' && *p->at <= '9'; p->at++)
         if (count++ < THALINGUZE_MAX_DIGITS)
@@ -86,13 +78,11 @@ static unsigned digits(struct parser *p, int *value)
     return count;
 }
 
-static bool unsigned_integer(struct parser *p, int *value)
-{
+static bool unsigned_integer(struct parser *p, int *value) {
     return p->at < p->end && *p->at != '0' && digits(p, value) > 0;
 }
 
-static bool integer(struct parser *p, int *value)
-{
+static bool integer(struct parser *p, int *value) {
     bool negative = take(p, '-');
     if (!negative)
         take(p, '+');
@@ -104,8 +94,7 @@ static bool integer(struct parser *p, int *value)
 }
 
 /* an integer, a decimal or a fraction in brackets */
-static bool bracketed(struct parser *p, int *numerator, int *denominator)
-{
+static bool bracketed(struct parser *p, int *numerator, int *denominator) {
     if (!open_bracket(p))
         return false;
     bool negative = next_is(p, '-');
@@ -125,14 +114,12 @@ static bool bracketed(struct parser *p, int *numerator, int *denominator)
     return close_bracket(p);
 }
 
-static bool power(struct parser *p, int *numerator, int *denominator)
-{
+static bool power(struct parser *p, int *numerator, int *denominator) {
     return next_is(p, '(') ? bracketed(p, numerator, denominator) : integer(p, numerator);
 }
 
 /* what follows a spelling: 1 where nothing is written */
-static bool exponent(struct parser *p, int *sixtieths)
-{
+static bool exponent(struct parser *p, int *sixtieths) {
     int numerator = 1, denominator = 1;
     if (p->notation != CDS && (take_stars(p) || (p->notation == FITS && take(p, '^')))) {
         if (!power(p, &numerator, &denominator))
@@ -153,8 +140,7 @@ static bool exponent(struct parser *p, int *sixtieths)
 }
 
 /* the factor of a label that starts with a digit, with the spaces after it */
-static bool factor(struct parser *p)
-{
+static bool factor(struct parser *p) {
     unsigned zeros = 0;
     if (!take(p, '1'))
         return false;
@@ -181,8 +167,7 @@ static bool factor(struct parser *p)
 
 /* UNITS, GROUPS, PRODUCTS */
 
-static bool spelling(struct parser *p, struct symbol *symbol)
-{
+static bool spelling(struct parser *p, struct symbol *symbol) {
     const uint8_t *from = p->at;
     bool letters = take_letters(p);
     if (p->notation == VOU && next_is(p, '\'')) {
@@ -197,8 +182,7 @@ static bool spelling(struct parser *p, struct symbol *symbol)
 
 static bool body(struct parser *p, int sign);
 
-static bool item(struct parser *p, int sign)
-{
+static bool item(struct parser *p, int sign) {
     if (open_bracket(p))
         return body(p, sign) && close_bracket(p);
     struct term term;
@@ -216,8 +200,7 @@ static bool item(struct parser *p, int sign)
     return true;
 }
 
-static bool product(struct parser *p, int sign)
-{
+static bool product(struct parser *p, int sign) {
     do
         if (!item(p, sign))
             return false;
@@ -226,8 +209,7 @@ static bool product(struct parser *p, int sign)
 }
 
 /* OGIP and CDS: products and slashes in any order */
-static bool chain(struct parser *p, int sign)
-{
+static bool chain(struct parser *p, int sign) {
     const uint8_t times = p->notation == OGIP ? '*' : '.';
     bool first = true;
     for (;; first = false) {
@@ -246,15 +228,13 @@ static bool chain(struct parser *p, int sign)
     }
 }
 
-static bool body(struct parser *p, int sign)
-{
+static bool body(struct parser *p, int sign) {
     if (p->notation == OGIP || p->notation == CDS)
         return chain(p, sign);
     return product(p, sign) && (p->notation == FITS || !take(p, '/') || item(p, -sign));
 }
 
-static bool whole(struct parser *p)
-{
+static bool whole(struct parser *p) {
     if (p->at == p->end)
         return true;
     if (*p->at == ' ' || p->end[-1] == ' ')
@@ -275,8 +255,7 @@ struct content {
     int64_t dimensions[THALINGUZE_BASES], scale[THALINGUZE_PRIMES];
 };
 
-static void add_term(struct content *c, const struct term *t, uint32_t notation)
-{
+static void add_term(struct content *c, const struct term *t, uint32_t notation) {
     const struct unit *unit = &bench_units[t->symbol.unit];
     int tens = bench_prefix_powers[t->symbol.prefix] * t->exponent;
     c->scale[THALINGUZE_PRIME_2] += tens;
@@ -296,15 +275,13 @@ static void add_term(struct content *c, const struct term *t, uint32_t notation)
 #if __BYTE_ORDER__ != __ORDER_LITTLE_ENDIAN__
 #error "the record has the least significant byte first, and so must this machine"
 #endif
-static void put(uint8_t *record, unsigned field, int64_t value)
-{
+static void put(uint8_t *record, unsigned field, int64_t value) {
     memcpy(record + (size_t)field * THALINGUZE_FIELD_SIZE, &value, sizeof value);
 }
 
 /* the whole record: everything that knows its layout is here */
 /* An unknown unit's letters come after its prefix, and are between its quotes if it has any. */
-static void put_letters(uint8_t *record, unsigned field, const struct parser *p, const struct term *t)
-{
+static void put_letters(uint8_t *record, unsigned field, const struct parser *p, const struct term *t) {
     unsigned start = 0, length = 0;
     if (t->symbol.unit == THALINGUZE_UNIT_UNKNOWN) {
         unsigned prefix = t->symbol.prefix == THALINGUZE_PREFIX_DECA ? 2 : t->symbol.prefix != 0;
@@ -316,8 +293,7 @@ static void put_letters(uint8_t *record, unsigned field, const struct parser *p,
     put(record, field + THALINGUZE_TERM_LETTERS_LENGTH, length);
 }
 
-static void write_record(uint8_t *record, const struct parser *p, const struct content *c)
-{
+static void write_record(uint8_t *record, const struct parser *p, const struct content *c) {
     size_t used = (THALINGUZE_FIELD_TERMS + THALINGUZE_TERM_FIELDS * p->count) * THALINGUZE_FIELD_SIZE;
     memset(record + used, 0, THALINGUZE_FIELD_DIMENSIONS * THALINGUZE_FIELD_SIZE - used);
     put(record, THALINGUZE_FIELD_NUMBER, THALINGUZE_ACCEPTED);
@@ -340,8 +316,7 @@ static void write_record(uint8_t *record, const struct parser *p, const struct c
     memcpy(record + THALINGUZE_FIELD_SCALE * THALINGUZE_FIELD_SIZE, c->scale, sizeof c->scale);
 }
 
-static uint32_t refusal(struct parser *p, size_t size)
-{
+static uint32_t refusal(struct parser *p, size_t size) {
     if (p->notation < FITS || p->notation > VOU)
         return THALINGUZE_NO_SUCH_NOTATION;
     if (size > THALINGUZE_MAX_LABEL_SIZE)
@@ -358,8 +333,7 @@ static uint32_t refusal(struct parser *p, size_t size)
     return p->count > THALINGUZE_MAX_TERMS ? THALINGUZE_TOO_MANY_TERMS : THALINGUZE_ACCEPTED;
 }
 
-uint32_t bench_read(uint32_t notation, const uint8_t *label, size_t label_size, uint8_t *record, size_t record_size)
-{
+uint32_t bench_read(uint32_t notation, const uint8_t *label, size_t label_size, uint8_t *record, size_t record_size) {
     struct parser p;
     p.start = p.at = label;
     p.end = label + label_size;

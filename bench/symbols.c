@@ -79,8 +79,7 @@ static struct entry {
 
 static uint8_t one_letter_prefix[256];
 
-static unsigned slot(const uint8_t *letters, size_t size)
-{
+static unsigned slot(const uint8_t *letters, size_t size) {
     uint32_t hash = 2166136261u;
     for (size_t i = 0; i < size; i++)
         hash = (hash ^ letters[i]) * 16777619u;
@@ -88,8 +87,7 @@ static unsigned slot(const uint8_t *letters, size_t size)
 }
 
 /* the entry with these letters, or the free one where they would be */
-static struct entry *find(uint32_t notation, const uint8_t *letters, size_t size)
-{
+static struct entry *find(uint32_t notation, const uint8_t *letters, size_t size) {
     for (unsigned i = slot(letters, size);; i = (i + 1) % SLOTS) {
         struct entry *e = &tables[notation][i];
         if (e->size == 0 || (e->size == size && memcmp(e->letters, letters, size) == 0))
@@ -97,8 +95,7 @@ static struct entry *find(uint32_t notation, const uint8_t *letters, size_t size
     }
 }
 
-static void enter(uint32_t notation, unsigned prefix, const char *name, unsigned unit)
-{
+static void enter(uint32_t notation, unsigned prefix, const char *name, unsigned unit) {
     uint8_t letters[LONGEST + 3];
     size_t before = strlen(prefix_letters[prefix]), size = before + strlen(name);
     memcpy(letters, prefix_letters[prefix], before);
@@ -112,8 +109,7 @@ static void enter(uint32_t notation, unsigned prefix, const char *name, unsigned
 }
 
 /* names first, since a whole name comes before a prefix and a name */
-void bench_prepare(void)
-{
+void bench_prepare(void) {
     for (unsigned prefix = 0; prefix <= PREFIXES; prefix++) {
         for (uint32_t notation = THALINGUZE_FITS; notation <= THALINGUZE_VOUNITS; notation++)
             for (size_t i = 0; i < sizeof names / sizeof names[0]; i++)
@@ -124,13 +120,11 @@ void bench_prepare(void)
     }
 }
 
-unsigned bench_prefix(const uint8_t *letters, size_t size)
-{
+unsigned bench_prefix(const uint8_t *letters, size_t size) {
     return size == 1 ? one_letter_prefix[letters[0]] : size == 2 && letters[0] == 'd' && letters[1] == 'a' ? THALINGUZE_PREFIX_DECA : 0;
 }
 
-struct symbol bench_symbol(uint32_t notation, const uint8_t *letters, size_t size)
-{
+struct symbol bench_symbol(uint32_t notation, const uint8_t *letters, size_t size) {
     if (size <= LONGEST) {
         const struct entry *e = find(notation, letters, size);
         if (e->size != 0)

@@ -7,8 +7,7 @@
 /* a label as the calls take it: its bytes, and how many they are */
 #define LABEL(text) (const uint8_t *)(text), strlen(text)
 
-static void read_label(uint32_t notation, const char *label)
-{
+static void read_label(uint32_t notation, const char *label) {
     uint8_t record[THALINGUZE_RECORD_SIZE];
     uint32_t refusal = thalinguze_read(notation, LABEL(label),
                                        record, sizeof record);
@@ -23,8 +22,7 @@ static void read_label(uint32_t notation, const char *label)
 }
 
 static void rewrite_label(uint32_t source, const char *label,
-                          uint32_t target)
-{
+                          uint32_t target) {
     uint8_t result[THALINGUZE_MAX_LABEL_SIZE];
     struct thalinguze_rewritten rewritten = thalinguze_rewrite(
         source, LABEL(label), target, result, sizeof result);
@@ -37,8 +35,7 @@ static void rewrite_label(uint32_t source, const char *label,
 }
 
 static void convert_label(uint32_t first, const char *from,
-                          uint32_t second, const char *to)
-{
+                          uint32_t second, const char *to) {
     uint8_t record[THALINGUZE_CONVERSION_SIZE];
     uint32_t refusal = thalinguze_convert(
         first, LABEL(from), second, LABEL(to), record, sizeof record);
@@ -52,8 +49,7 @@ static void convert_label(uint32_t first, const char *from,
                thalinguze_conversion_k(record));
 }
 
-int main(void)
-{
+int main(void) {
     if (thalinguze_version() / 10000 != THALINGUZE_VERSION_MAJOR) {
         printf("the library is not one of %s\n",
                THALINGUZE_VERSION_STRING);

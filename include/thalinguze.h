@@ -292,8 +292,7 @@ uint32_t thalinguze_read(uint32_t notation, const uint8_t *label, size_t label_s
  */
 
 /* Field number `field`, 0 to THALINGUZE_FIELDS - 1. */
-static inline int64_t thalinguze_field(const uint8_t *record, unsigned field)
-{
+static inline int64_t thalinguze_field(const uint8_t *record, unsigned field) {
     const uint8_t *at = record + (size_t)field * THALINGUZE_FIELD_SIZE;
     uint64_t bits = 0;
     for (unsigned i = THALINGUZE_FIELD_SIZE; i-- > 0;)
@@ -303,66 +302,55 @@ static inline int64_t thalinguze_field(const uint8_t *record, unsigned field)
 }
 
 /* The power of ten of the label's factor. */
-static inline int thalinguze_k(const uint8_t *record)
-{
+static inline int thalinguze_k(const uint8_t *record) {
     return (int)thalinguze_field(record, THALINGUZE_FIELD_K);
 }
 
 /* The three verdicts, each 1 (yes) or 0 (no). */
-static inline int thalinguze_known(const uint8_t *record)
-{
+static inline int thalinguze_known(const uint8_t *record) {
     return (int)thalinguze_field(record, THALINGUZE_FIELD_KNOWN);
 }
 
-static inline int thalinguze_lawful(const uint8_t *record)
-{
+static inline int thalinguze_lawful(const uint8_t *record) {
     return (int)thalinguze_field(record, THALINGUZE_FIELD_LAWFUL);
 }
 
-static inline int thalinguze_recommended(const uint8_t *record)
-{
+static inline int thalinguze_recommended(const uint8_t *record) {
     return (int)thalinguze_field(record, THALINGUZE_FIELD_RECOMMENDED);
 }
 
 /* How many terms the label has. */
-static inline unsigned thalinguze_count(const uint8_t *record)
-{
+static inline unsigned thalinguze_count(const uint8_t *record) {
     return (unsigned)thalinguze_field(record, THALINGUZE_FIELD_COUNT);
 }
 
 /* A field of term i: THALINGUZE_TERM_PREFIX, .. */
-static inline int64_t thalinguze_term_field(const uint8_t *record, unsigned i, unsigned field)
-{
+static inline int64_t thalinguze_term_field(const uint8_t *record, unsigned i, unsigned field) {
     return thalinguze_field(record, THALINGUZE_FIELD_TERMS + THALINGUZE_TERM_FIELDS * i + field);
 }
 
 /* The prefix code of term i. */
-static inline int thalinguze_term_prefix(const uint8_t *record, unsigned i)
-{
+static inline int thalinguze_term_prefix(const uint8_t *record, unsigned i) {
     return (int)thalinguze_term_field(record, i, THALINGUZE_TERM_PREFIX);
 }
 
 /* The unit code of term i. */
-static inline int thalinguze_term_unit(const uint8_t *record, unsigned i)
-{
+static inline int thalinguze_term_unit(const uint8_t *record, unsigned i) {
     return (int)thalinguze_term_field(record, i, THALINGUZE_TERM_UNIT);
 }
 
 /* The exponent of term i, in sixtieths. */
-static inline int thalinguze_term_exponent(const uint8_t *record, unsigned i)
-{
+static inline int thalinguze_term_exponent(const uint8_t *record, unsigned i) {
     return (int)thalinguze_term_field(record, i, THALINGUZE_TERM_EXPONENT);
 }
 
 /* Where the spelling of term i starts in the label, counted from 0. */
-static inline size_t thalinguze_term_start(const uint8_t *record, unsigned i)
-{
+static inline size_t thalinguze_term_start(const uint8_t *record, unsigned i) {
     return (size_t)thalinguze_term_field(record, i, THALINGUZE_TERM_START);
 }
 
 /* How many bytes the spelling of term i has, prefix and quotes included. */
-static inline size_t thalinguze_term_length(const uint8_t *record, unsigned i)
-{
+static inline size_t thalinguze_term_length(const uint8_t *record, unsigned i) {
     return (size_t)thalinguze_term_field(record, i, THALINGUZE_TERM_LENGTH);
 }
 
@@ -370,25 +358,21 @@ static inline size_t thalinguze_term_length(const uint8_t *record, unsigned i)
  * Where the letters of the unknown unit of term i start in the label, and how many there are, without prefix and quotes: "urlong" in FITS
  * "furlong", which is read as femto and urlong; "furlong" in VOUnits "'furlong'". Both are 0 for a known unit.
  */
-static inline size_t thalinguze_term_letters_start(const uint8_t *record, unsigned i)
-{
+static inline size_t thalinguze_term_letters_start(const uint8_t *record, unsigned i) {
     return (size_t)thalinguze_term_field(record, i, THALINGUZE_TERM_LETTERS_START);
 }
 
-static inline size_t thalinguze_term_letters_length(const uint8_t *record, unsigned i)
-{
+static inline size_t thalinguze_term_letters_length(const uint8_t *record, unsigned i) {
     return (size_t)thalinguze_term_field(record, i, THALINGUZE_TERM_LETTERS_LENGTH);
 }
 
 /* The exponent of a base, THALINGUZE_BASE_METRE .., in the label's dimensions, in sixtieths. */
-static inline int64_t thalinguze_dimension(const uint8_t *record, unsigned base)
-{
+static inline int64_t thalinguze_dimension(const uint8_t *record, unsigned base) {
     return thalinguze_field(record, THALINGUZE_FIELD_DIMENSIONS + base);
 }
 
 /* The exponent of a prime, THALINGUZE_PRIME_2 .., in the label's scale, in sixtieths. */
-static inline int64_t thalinguze_scale(const uint8_t *record, unsigned prime)
-{
+static inline int64_t thalinguze_scale(const uint8_t *record, unsigned prime) {
     return thalinguze_field(record, THALINGUZE_FIELD_SCALE + prime);
 }
 
@@ -465,20 +449,17 @@ uint32_t thalinguze_convert(uint32_t first, const uint8_t *first_label, size_t f
 /* What follows takes fields out of a record that an accepted conversion wrote whole. */
 
 /* The factor's numerator, 1 to THALINGUZE_MAX_NUMERATOR. */
-static inline int64_t thalinguze_numerator(const uint8_t *record)
-{
+static inline int64_t thalinguze_numerator(const uint8_t *record) {
     return thalinguze_field(record, THALINGUZE_CONVERSION_NUMERATOR);
 }
 
 /* The factor's denominator, 1 to THALINGUZE_MAX_NUMERATOR. */
-static inline int64_t thalinguze_denominator(const uint8_t *record)
-{
+static inline int64_t thalinguze_denominator(const uint8_t *record) {
     return thalinguze_field(record, THALINGUZE_CONVERSION_DENOMINATOR);
 }
 
 /* The power of ten that the fraction is multiplied by, -THALINGUZE_MAX_CONVERSION_K to THALINGUZE_MAX_CONVERSION_K. */
-static inline int thalinguze_conversion_k(const uint8_t *record)
-{
+static inline int thalinguze_conversion_k(const uint8_t *record) {
     return (int)thalinguze_field(record, THALINGUZE_CONVERSION_K);
 }
 

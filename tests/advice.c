@@ -7,8 +7,7 @@
 
 static unsigned long tried, wrong, refused, suggested[ANOTHER + 1];
 
-static void fail(const char *what, uint32_t notation, const char *label, const char *suggestion)
-{
+static void fail(const char *what, uint32_t notation, const char *label, const char *suggestion) {
     printf("%s: %s %s: %s\n", what, notation_words[notation].name, label, suggestion);
     if (++wrong > 20)
         exit(1);
@@ -25,8 +24,7 @@ struct said {
     } terms[300];
 };
 
-static const char *number_at(const char *at, double *value)
-{
+static const char *number_at(const char *at, double *value) {
     char *end;
     if (!isdigit((unsigned char)at[*at == '-' || *at == '+']))
         return NULL;
@@ -35,8 +33,7 @@ static const char *number_at(const char *at, double *value)
 }
 
 /* the exponent after a unit, or 1 */
-static const char *exponent_at(const char *at, double *exponent)
-{
+static const char *exponent_at(const char *at, double *exponent) {
     const char *start = at + (strncmp(at, "**", 2) == 0 ? 2 : *at == '^'), *end;
     double divisor = 1;
     *exponent = 1;
@@ -52,8 +49,7 @@ static const char *exponent_at(const char *at, double *exponent)
 }
 
 /* the terms up to a closing bracket or the end; a slash turns what comes straight after it, or all the rest */
-static const char *terms_at(const char *at, bool rest, double sign, struct said *s)
-{
+static const char *terms_at(const char *at, bool rest, double sign, struct said *s) {
     double now = sign;
     for (; *at && *at != ')';) {
         if (*at == '/') {
@@ -78,8 +74,7 @@ static const char *terms_at(const char *at, bool rest, double sign, struct said 
     return at;
 }
 
-static void read_said(const char *given, bool rest, struct said *s)
-{
+static void read_said(const char *given, bool rest, struct said *s) {
     static char closed[TEXT_ROOM];
     double value = 1;
     size_t length = 0;
@@ -104,8 +99,7 @@ static void read_said(const char *given, bool rest, struct said *s)
 }
 
 /* whether a reading has these exponents and this power of ten, and these spellings if they are asked for */
-static bool says(const char *label, const uint8_t *record, const struct said *s, bool spellings)
-{
+static bool says(const char *label, const uint8_t *record, const struct said *s, bool spellings) {
     bool same = thalinguze_count(record) == s->count && fabs(s->k - thalinguze_k(record)) < 1e-9;
     for (unsigned i = 0; same && i < s->count; i++)
         same = fabs(thalinguze_term_exponent(record, i) / 60.0 - s->terms[i].exponent) < 1e-9
@@ -115,8 +109,7 @@ static bool says(const char *label, const uint8_t *record, const struct said *s,
 
 /* CLAIMS */
 
-static void check_suggestion(const struct advice *a, const char *label, const struct suggestion *s)
-{
+static void check_suggestion(const struct advice *a, const char *label, const struct suggestion *s) {
     static struct said next, rest;
     struct reading r = ask(a->notation, s->label), other = ask(s->source, a->plain.s);
     const uint8_t *here = r.record, *there = other.record;
@@ -138,8 +131,7 @@ static void check_suggestion(const struct advice *a, const char *label, const st
         fail("another meaning", a->notation, label, s->label);
 }
 
-static void walk(uint32_t notation, const char *label)
-{
+static void walk(uint32_t notation, const char *label) {
     static struct advice a;
     struct reading r = ask(notation, label);
     tried++;
@@ -178,13 +170,11 @@ static const struct {
     {3, "m.pixel", "m.pix", 0}, {1, "m", 0, 0}, {1, "(kg/m s)", "kg m-1 s", "kg m-1 s-1"}, {1, "%", 0, 0}, {1, "((((((((kg/m.s))))))))", "kg m-1 s", 0}, {2, "10^10003 m", 0, 0}, {1, "ma1(1/2)", 0, 0}, {1, "m1**+9", 0, 0}, {1, " 10*k1m", 0, 0}, {3, "100**1%", 0, 0}, {2, "1e10000 m", 0, 0}, {2, "10^99 m", "10**99 m", 0}, {1, "\xff", 0, 0},
 };
 
-static bool same(const char *a, const char *b)
-{
+static bool same(const char *a, const char *b) {
     return a && b ? strcmp(a, b) == 0 : !a && !b;
 }
 
-static void walk_expected(void)
-{
+static void walk_expected(void) {
     for (size_t i = 0; i < sizeof expected / sizeof expected[0]; i++) {
         static struct advice a;
         uint32_t n = expected[i].notation;
@@ -196,8 +186,7 @@ static void walk_expected(void)
 }
 
 /* the labels in the tables of words, and that no spelling is known in two notations as two units */
-static void walk_words(void)
-{
+static void walk_words(void) {
     for (uint32_t n = 1; n <= NOTATIONS; n++)
         for (unsigned i = 0; i < 3; i++)
             if (!is_sound(n, notation_words[n].examples[i]))
@@ -217,8 +206,7 @@ static void walk_words(void)
         }
 }
 
-static void walk_file(const char *name)
-{
+static void walk_file(const char *name) {
     char line[1024];
     FILE *f = fopen(name, "r");
     if (!f)
@@ -233,8 +221,7 @@ static void walk_file(const char *name)
     fclose(f);
 }
 
-int main(void)
-{
+int main(void) {
     static uint8_t label[LABEL_ROOM + 1];
     walk_words();
     walk_expected();

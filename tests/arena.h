@@ -19,8 +19,7 @@ struct arena {
     size_t watched_size;
 };
 
-static struct arena make_arena(size_t room)
-{
+static struct arena make_arena(size_t room) {
     size_t page = (size_t)sysconf(_SC_PAGESIZE), size = (room + page - 1) / page * page;
     uint8_t *all = mmap(NULL, size + 2 * page, PROT_NONE, MAP_PRIVATE | MAP_ANONYMOUS, -1, 0);
     if (all == MAP_FAILED || mprotect(all + page, size, PROT_READ | PROT_WRITE) != 0) {
@@ -32,8 +31,7 @@ static struct arena make_arena(size_t room)
 
 /* where a buffer of that size lies: 0 between guard bytes, 1 before an inaccessible page, 2 after one, 3 in a block of its own, or nowhere, at
    NULL, if it has no byte */
-static uint8_t *place(struct arena *a, size_t size, unsigned where, uint8_t fill)
-{
+static uint8_t *place(struct arena *a, size_t size, unsigned where, uint8_t fill) {
     free(a->block);
     a->block = where == 3 && size != 0 ? malloc(size) : NULL;
     a->watched = where == 3 ? a->block : a->start;
@@ -46,8 +44,7 @@ static uint8_t *place(struct arena *a, size_t size, unsigned where, uint8_t fill
     return where == 0 ? a->start + GUARD : where == 1 ? a->end - size : a->watched;
 }
 
-static bool filled(const uint8_t *at, size_t size, uint8_t fill)
-{
+static bool filled(const uint8_t *at, size_t size, uint8_t fill) {
     uint64_t word, wanted;
     memset(&wanted, fill, sizeof wanted);
     for (; size >= sizeof word; at += sizeof word, size -= sizeof word) {
@@ -62,8 +59,7 @@ static bool filled(const uint8_t *at, size_t size, uint8_t fill)
 }
 
 /* whether all bytes outside the first ones of the lent buffer are as they were filled */
-static bool outside_kept(const struct arena *a, const uint8_t *buffer, size_t size, uint8_t fill)
-{
+static bool outside_kept(const struct arena *a, const uint8_t *buffer, size_t size, uint8_t fill) {
     if (a->watched_size == 0)
         return size == 0;
     size_t before = (size_t)(buffer - a->watched);
@@ -71,8 +67,7 @@ static bool outside_kept(const struct arena *a, const uint8_t *buffer, size_t si
 }
 
 /* a lent copy */
-static uint8_t *place_copy(struct arena *a, const uint8_t *bytes, size_t size, unsigned where, uint8_t fill)
-{
+static uint8_t *place_copy(struct arena *a, const uint8_t *bytes, size_t size, unsigned where, uint8_t fill) {
     uint8_t *copy = place(a, size, where, fill);
     if (size != 0)
         memcpy(copy, bytes, size);
@@ -80,8 +75,7 @@ static uint8_t *place_copy(struct arena *a, const uint8_t *bytes, size_t size, u
 }
 
 /* whether the first bytes of a lent buffer are those, and all others as they were filled */
-static bool holds_only(const struct arena *a, const uint8_t *buffer, const uint8_t *bytes, size_t size, uint8_t fill)
-{
+static bool holds_only(const struct arena *a, const uint8_t *buffer, const uint8_t *bytes, size_t size, uint8_t fill) {
     return (size == 0 || memcmp(buffer, bytes, size) == 0) && outside_kept(a, buffer, size, fill);
 }
 

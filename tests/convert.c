@@ -12,8 +12,7 @@ enum { ROOM = THALINGUZE_CONVERSION_SIZE + 8 };
 static struct arena first_arena, second_arena, record_arena;
 
 /* converts into a buffer of that size; the first bytes, as many as a conversion writes, come into the record */
-static bool convert(const struct label *a, const struct label *b, size_t size, unsigned where, uint32_t *number, uint8_t *record)
-{
+static bool convert(const struct label *a, const struct label *b, size_t size, unsigned where, uint32_t *number, uint8_t *record) {
     uint8_t *first = lend(&first_arena, a, where), *second = lend(&second_arena, b, where), *lent = place(&record_arena, size, where, FILL);
     *number = thalinguze_convert(a->notation, first, a->size, b->notation, second, b->size, lent, size);
     size_t written = *number != 0 ? 0 : size < THALINGUZE_CONVERSION_SIZE ? size : THALINGUZE_CONVERSION_SIZE;
@@ -23,8 +22,7 @@ static bool convert(const struct label *a, const struct label *b, size_t size, u
 }
 
 /* a whole record, then one of another size at another place */
-static bool answer(const struct label *a, const struct label *b, unsigned long line, uint32_t *number, uint8_t *whole)
-{
+static bool answer(const struct label *a, const struct label *b, unsigned long line, uint32_t *number, uint8_t *whole) {
     uint8_t part[THALINGUZE_CONVERSION_SIZE];
     uint32_t again;
     size_t size = line % ROOM, common = size < THALINGUZE_CONVERSION_SIZE ? size : THALINGUZE_CONVERSION_SIZE;
@@ -35,8 +33,7 @@ static bool answer(const struct label *a, const struct label *b, unsigned long l
     return *number == again;
 }
 
-int main(void)
-{
+int main(void) {
     static struct label a, b;
     first_arena = make_arena(LABEL_ROOM + 2 * GUARD);
     second_arena = make_arena(LABEL_ROOM + 2 * GUARD);

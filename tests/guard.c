@@ -17,24 +17,20 @@ static unsigned long lendings, wrong;
 static struct arena first_arena, second_arena, buffer_arena;
 
 /* every place of a label with every place of a buffer */
-static unsigned label_place(void)
-{
+static unsigned label_place(void) {
     return (unsigned)(lendings / PLACES % PLACES);
 }
 
-static unsigned buffer_place(void)
-{
+static unsigned buffer_place(void) {
     return (unsigned)(lendings % PLACES);
 }
 
-static void count(struct tally *t, bool accepted)
-{
+static void count(struct tally *t, bool accepted) {
     t->inputs++;
     t->accepted += accepted;
 }
 
-static void check(bool good, const struct tally *t, const struct vector *v, size_t lent)
-{
+static void check(bool good, const struct tally *t, const struct vector *v, size_t lent) {
     lendings++;
     if (good)
         return;
@@ -46,25 +42,21 @@ static void check(bool good, const struct tally *t, const struct vector *v, size
         exit(1);
 }
 
-static uint8_t *lend(struct arena *a, const struct vector *v)
-{
+static uint8_t *lend(struct arena *a, const struct vector *v) {
     return place_copy(a, v->label, v->size, label_place(), FILL);
 }
 
-static bool kept(const struct arena *a, const uint8_t *lent, const struct vector *v)
-{
+static bool kept(const struct arena *a, const uint8_t *lent, const struct vector *v) {
     return holds_only(a, lent, v->label, v->size, FILL);
 }
 
-static size_t smaller(size_t a, size_t b)
-{
+static size_t smaller(size_t a, size_t b) {
     return a < b ? a : b;
 }
 
 /* READING */
 
-static void lend_record(const struct vector *v, size_t lent, uint32_t number, const uint8_t *whole)
-{
+static void lend_record(const struct vector *v, size_t lent, uint32_t number, const uint8_t *whole) {
     uint8_t *label = lend(&first_arena, v), *record = place(&buffer_arena, lent, buffer_place(), FILL);
     uint32_t answer = thalinguze_read(v->notation, label, v->size, record, lent);
     size_t written = number != 0 ? 0 : smaller(lent, THALINGUZE_RECORD_SIZE);
@@ -72,8 +64,7 @@ static void lend_record(const struct vector *v, size_t lent, uint32_t number, co
 }
 
 /* the whole record once, then a buffer of the next size and one at an end of the record */
-static void try_read(const struct vector *v)
-{
+static void try_read(const struct vector *v) {
     static const size_t ends[] = {0, 1, THALINGUZE_RECORD_SIZE - 1, THALINGUZE_RECORD_SIZE, THALINGUZE_RECORD_SIZE + 1};
     uint8_t whole[THALINGUZE_RECORD_SIZE];
     uint32_t number = thalinguze_read(v->notation, v->label, v->size, whole, sizeof whole);
@@ -84,8 +75,7 @@ static void try_read(const struct vector *v)
 }
 
 /* every size of buffer, at every place, for one accepted and one refused label */
-static void try_all_sizes(void)
-{
+static void try_all_sizes(void) {
     static struct vector accepted = {THALINGUZE_CDS, 21, "10+3kg.furlong/(m2.s)"}, refused = {THALINGUZE_CDS, 3, "m m"};
     uint8_t whole[THALINGUZE_RECORD_SIZE];
     check(thalinguze_read(accepted.notation, accepted.label, accepted.size, whole, sizeof whole) == 0, &reading, &accepted, sizeof whole);
@@ -98,8 +88,7 @@ static void try_all_sizes(void)
 
 /* REWRITING */
 
-static void lend_buffer(const struct vector *v, uint32_t target, size_t lent, struct thalinguze_rewritten wanted, const uint8_t *whole)
-{
+static void lend_buffer(const struct vector *v, uint32_t target, size_t lent, struct thalinguze_rewritten wanted, const uint8_t *whole) {
     if (wanted.number == 0 && lent < wanted.length)
         wanted = (struct thalinguze_rewritten){THALINGUZE_BUFFER_TOO_SHORT, 0};
     uint8_t *label = lend(&first_arena, v), *buffer = place(&buffer_arena, lent, buffer_place(), FILL);
@@ -109,8 +98,7 @@ static void lend_buffer(const struct vector *v, uint32_t target, size_t lent, st
 }
 
 /* the whole result once, then no buffer, buffers about as long as the result, and one of any length */
-static void try_rewrite(const struct vector *v, uint32_t target)
-{
+static void try_rewrite(const struct vector *v, uint32_t target) {
     uint8_t whole[THALINGUZE_MAX_LABEL_SIZE];
     struct thalinguze_rewritten r = thalinguze_rewrite(v->notation, v->label, v->size, target, whole, sizeof whole);
     bool possible = r.number <= THALINGUZE_TOO_MANY_TERMS || r.number == THALINGUZE_NO_FORM || r.number == THALINGUZE_RESULT_TOO_LONG;
@@ -126,8 +114,7 @@ static void try_rewrite(const struct vector *v, uint32_t target)
 
 /* CONVERTING */
 
-static void lend_conversion(const struct vector *a, const struct vector *b, size_t lent, uint32_t number, const uint8_t *whole)
-{
+static void lend_conversion(const struct vector *a, const struct vector *b, size_t lent, uint32_t number, const uint8_t *whole) {
     uint8_t *first = lend(&first_arena, a), *second = lend(&second_arena, b), *record = place(&buffer_arena, lent, buffer_place(), FILL);
     uint32_t answer = thalinguze_convert(a->notation, first, a->size, b->notation, second, b->size, record, lent);
     size_t written = number != 0 ? 0 : smaller(lent, THALINGUZE_CONVERSION_SIZE);
@@ -135,8 +122,7 @@ static void lend_conversion(const struct vector *a, const struct vector *b, size
               holds_only(&buffer_arena, record, whole, written, FILL), &converting, a, lent);
 }
 
-static void try_convert(const struct vector *a, const struct vector *b)
-{
+static void try_convert(const struct vector *a, const struct vector *b) {
     static const size_t ends[] = {0, THALINGUZE_CONVERSION_SIZE - 1, THALINGUZE_CONVERSION_SIZE, THALINGUZE_CONVERSION_SIZE + 1};
     uint8_t whole[THALINGUZE_CONVERSION_SIZE];
     uint32_t number = thalinguze_convert(a->notation, a->label, a->size, b->notation, b->label, b->size, whole, sizeof whole);
@@ -149,8 +135,7 @@ static void try_convert(const struct vector *a, const struct vector *b)
 /* NULL POINTERS */
 
 /* nothing but null pointers: the empty label, and a buffer without a byte */
-static void try_nulls(void)
-{
+static void try_nulls(void) {
     const struct vector empty = {.size = 0};
     for (uint32_t source = 0; source < TARGETS; source++)
         for (uint32_t target = 0; target < TARGETS; target++) {
@@ -165,8 +150,7 @@ static void try_nulls(void)
 /* INPUTS */
 
 /* one label through each call, in the four notations and with two numbers that are none */
-static void try_everywhere(const struct vector *v)
-{
+static void try_everywhere(const struct vector *v) {
     struct vector other = *v;
     for (other.notation = 0; other.notation < TARGETS; other.notation++) {
         try_read(&other);
@@ -176,15 +160,13 @@ static void try_everywhere(const struct vector *v)
 }
 
 /* one label through each call, in its notation, with the next target */
-static void try_here(const struct vector *v)
-{
+static void try_here(const struct vector *v) {
     try_read(v);
     try_rewrite(v, rewriting.inputs % TARGETS);
     try_convert(v, v);
 }
 
-static void try_file(const char *name, void (*try_label)(const struct vector *))
-{
+static void try_file(const char *name, void (*try_label)(const struct vector *)) {
     static struct vector v;
     FILE *f = open_vectors(name);
     for (; scan_vector(f, &v); skip_line(f))
@@ -192,8 +174,7 @@ static void try_file(const char *name, void (*try_label)(const struct vector *))
     fclose(f);
 }
 
-static void try_pairs(const char *name)
-{
+static void try_pairs(const char *name) {
     static struct vector a, b;
     FILE *f = open_vectors(name);
     for (; scan_vector(f, &a) && scan_vector(f, &b); skip_line(f)) {
@@ -205,8 +186,7 @@ static void try_pairs(const char *name)
 }
 
 /* the number of a notation's name; 0 for any other text */
-static uint32_t notation_of(const char *name)
-{
+static uint32_t notation_of(const char *name) {
     static const char *const names[] = {"", "fits", "ogip", "cds", "vou"};
     for (uint32_t n = 1; n <= 4; n++)
         if (strcmp(names[n], name) == 0)
@@ -215,8 +195,7 @@ static uint32_t notation_of(const char *name)
 }
 
 /* lines with four fields that are not empty */
-static void try_lines(const char *name)
-{
+static void try_lines(const char *name) {
     static char line[65536];
     static struct vector v;
     FILE *f = open_vectors(name);
@@ -233,16 +212,14 @@ static void try_lines(const char *name)
     fclose(f);
 }
 
-static uint32_t some_notation(void)
-{
+static uint32_t some_notation(void) {
     static const uint32_t wild[] = {0, 5, 255, 256, 257, 65537, 0x80000000, 0x80000001, UINT32_MAX};
     unsigned choice = below(40);
     return choice == 0 ? wild[below(9)] : choice == 1 ? (uint32_t)next_random() : 1 + below(4);
 }
 
 /* the second label of a conversion: any, or the first, or the first in another notation */
-static void make_second(const struct vector *a, struct vector *b)
-{
+static void make_second(const struct vector *a, struct vector *b) {
     unsigned kind = below(3);
     *b = *a;
     if (kind == 0) {
@@ -256,8 +233,7 @@ static void make_second(const struct vector *a, struct vector *b)
     }
 }
 
-static void try_random(void)
-{
+static void try_random(void) {
     static struct vector a, b;
     a.notation = some_notation();
     a.size = random_label(a.label, a.notation);
@@ -267,14 +243,12 @@ static void try_random(void)
     try_convert(&a, &b);
 }
 
-static bool report(const struct tally *t)
-{
+static bool report(const struct tally *t) {
     printf("%lu labels or pairs %s, %lu accepted; ", t->inputs, t->call, t->accepted);
     return t->accepted >= t->inputs / 10;
 }
 
-int main(int argc, char **argv)
-{
+int main(int argc, char **argv) {
     unsigned long inputs = argc > 1 ? strtoul(argv[1], NULL, 10) : 100000;
     first_arena = make_arena(LABEL_ROOM + 2 * GUARD);
     second_arena = make_arena(LABEL_ROOM + 2 * GUARD);

@@ -50,8 +50,7 @@ _Static_assert(sizeof bases / sizeof bases[0] == THALINGUZE_BASES, "a constant f
 
 static int tried, wrong;
 
-static void check(bool good, const char *what, const char *which)
-{
+static void check(bool good, const char *what, const char *which) {
     tried++;
     if (!good) {
         wrong++;
@@ -59,15 +58,13 @@ static void check(bool good, const char *what, const char *which)
     }
 }
 
-static uint32_t read_text(uint32_t notation, const char *text, uint8_t *record)
-{
+static uint32_t read_text(uint32_t notation, const char *text, uint8_t *record) {
     memset(record, 0, THALINGUZE_RECORD_SIZE);
     return thalinguze_read(notation, (const uint8_t *)text, strlen(text), record, THALINGUZE_RECORD_SIZE);
 }
 
 /* a name as one number in base 256, first letter highest */
-static uint64_t key_of(const char *letters)
-{
+static uint64_t key_of(const char *letters) {
     uint64_t key = 0;
     for (; *letters; letters++)
         key = key << 8 | (uint8_t)*letters;
@@ -75,16 +72,14 @@ static uint64_t key_of(const char *letters)
 }
 
 /* a constant's name is its word, in capitals, with _ for what is no letter */
-static bool same_word(const char *name, const char *word)
-{
+static bool same_word(const char *name, const char *word) {
     for (; *name && *word; name++, word++)
         if (isalpha((unsigned char)*word) ? toupper((unsigned char)*word) != *name : *name != '_')
             return false;
     return *name == *word;
 }
 
-static const struct constant *find(const struct constant *table, size_t count, uint64_t key)
-{
+static const struct constant *find(const struct constant *table, size_t count, uint64_t key) {
     for (size_t i = 0; i < count; i++)
         if (key_of(table[i].symbol) == key)
             return &table[i];
@@ -92,8 +87,7 @@ static const struct constant *find(const struct constant *table, size_t count, u
 }
 
 /* a name's code has its length, the notations that know it and its unit's row, a byte each */
-static void check_name(uint64_t key, unsigned code)
-{
+static void check_name(uint64_t key, unsigned code) {
     uint8_t record[THALINGUZE_RECORD_SIZE];
     int row = (int)(code & 255);
     unsigned notations = code >> 8 & 255;
@@ -117,8 +111,7 @@ static void check_name(uint64_t key, unsigned code)
 }
 
 /* a prefix's code has its length above its two letters */
-static void check_prefix(int place, unsigned code, int power)
-{
+static void check_prefix(int place, unsigned code, int power) {
     const struct constant *c = find(prefixes, PREFIX_NAMES, code & 0xffff);
     check(c && strlen(c->symbol) == code >> 16, "the length of a prefix", c ? c->symbol : "lacking");
     check(c && c->code == place + 1, "prefix constant", c ? c->name : "lacking");
@@ -138,8 +131,7 @@ static void check_prefix(int place, unsigned code, int power)
     }
 }
 
-static void check_tables(void)
-{
+static void check_tables(void) {
     char line[256];
     int names = 0, prefix_count = 0;
     while (fgets(line, sizeof line, stdin)) {
@@ -160,8 +152,7 @@ static void check_tables(void)
     check(THALINGUZE_UNITS == 61, "units", "61");
 }
 
-static void check_bases(void)
-{
+static void check_bases(void) {
     for (int b = 0; b < THALINGUZE_BASES; b++) {
         uint8_t record[THALINGUZE_RECORD_SIZE];
         const struct constant *c = &bases[b];
@@ -172,8 +163,7 @@ static void check_bases(void)
     }
 }
 
-static void check_notations_and_refusals(void)
-{
+static void check_notations_and_refusals(void) {
     uint8_t record[THALINGUZE_RECORD_SIZE];
     static const char *const own[] = {"", "m^2", "m / s", "kg/m.s", "'m'"};
     static const uint32_t constants[] = {0, THALINGUZE_FITS, THALINGUZE_OGIP, THALINGUZE_CDS, THALINGUZE_VOUNITS};
@@ -204,8 +194,7 @@ static void check_notations_and_refusals(void)
     }
 }
 
-static void check_number_limits(void)
-{
+static void check_number_limits(void) {
     uint8_t record[THALINGUZE_RECORD_SIZE];
     char text[64];
     for (int more = 0; more <= 1; more++) {
@@ -221,8 +210,7 @@ static void check_number_limits(void)
 }
 
 /* a field at its literal place, here read without the header */
-static int literal(const uint8_t *record, size_t field)
-{
+static int literal(const uint8_t *record, size_t field) {
     const uint8_t *at = record + 8 * field;
     return at[7] & 128 ? -(int)((at[0] | at[1] << 8) ^ 0xffff) - 1 : at[0] | at[1] << 8;
 }
@@ -231,8 +219,7 @@ static int literal(const uint8_t *record, size_t field)
 enum { SIZE = 2128, FIELDS = 266, DIMENSIONS = 230, SCALE = 262 };
 
 /* every field at its place, and no byte past the record */
-static void check_layout(void)
-{
+static void check_layout(void) {
     const char *label = "10**-3 kfoo(-3/2) m2/lyr";
     /* number, k, known, lawful, recommended, count; then three terms */
     static const int expected[] = {0, -3, 0, 1, 0, 3, 3, 0, -90, 7, 4, 8, 3, 0, 1, 120, 18, 1, 0, 0, 0, 51, -60, 21, 3, 0, 0};
@@ -268,8 +255,7 @@ static void check_layout(void)
 }
 
 /* the three verdicts, each with a label that has it alone */
-static void check_verdicts(void)
-{
+static void check_verdicts(void) {
     uint8_t record[THALINGUZE_RECORD_SIZE];
     read_text(1, "kmin", record);
     check(thalinguze_known(record) && !thalinguze_lawful(record) && thalinguze_recommended(record), "verdicts", "kmin");
@@ -279,8 +265,7 @@ static void check_verdicts(void)
     check(thalinguze_field(record, THALINGUZE_FIELD_KNOWN) && !thalinguze_field(record, THALINGUZE_FIELD_RECOMMENDED), "verdicts", "erg");
 }
 
-static void check_letters(void)
-{
+static void check_letters(void) {
     static const struct {
         uint32_t notation;
         const char *label, *letters;
@@ -294,8 +279,7 @@ static void check_letters(void)
 }
 
 /* fields that no label has: the ends of what eight bytes hold */
-static void check_field_ends(void)
-{
+static void check_field_ends(void) {
     static const struct {
         uint8_t bytes[8];
         int64_t value;
@@ -307,8 +291,7 @@ static void check_field_ends(void)
         check(thalinguze_field(ends[i].bytes, 0) == ends[i].value, "field", "of eight bytes");
 }
 
-int main(void)
-{
+int main(void) {
     check_tables();
     check_bases();
     check_notations_and_refusals();

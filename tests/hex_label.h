@@ -16,8 +16,7 @@ struct label {
     uint8_t bytes[LABEL_ROOM];
 };
 
-static bool decode(struct label *l)
-{
+static bool decode(struct label *l) {
     l->size = 0;
     if (strcmp(l->text, "-") == 0)
         return true;
@@ -30,14 +29,12 @@ static bool decode(struct label *l)
     return true;
 }
 
-static uint8_t *lend(struct arena *a, const struct label *l, unsigned where)
-{
+static uint8_t *lend(struct arena *a, const struct label *l, unsigned where) {
     return place_copy(a, l->bytes, l->size, where, FILL);
 }
 
 /* whether a lent label and what is around it are as they were */
-static bool kept(const struct arena *a, const struct label *l, const uint8_t *text)
-{
+static bool kept(const struct arena *a, const struct label *l, const uint8_t *text) {
     return holds_only(a, text, l->bytes, l->size, FILL);
 }
 

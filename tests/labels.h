@@ -15,23 +15,20 @@ enum { LABEL_ROOM = 1024 };
 #define SEED 20261115ul
 static uint64_t state = SEED;
 
-static uint64_t next_random(void)
-{
+static uint64_t next_random(void) {
     uint64_t z = state += 0x9e3779b97f4a7c15;
     z = (z ^ z >> 30) * 0xbf58476d1ce4e5b9;
     z = (z ^ z >> 27) * 0x94d049bb133111eb;
     return z ^ z >> 31;
 }
 
-static unsigned below(unsigned n)
-{
+static unsigned below(unsigned n) {
     return (unsigned)(next_random() % n);
 }
 
 /* LABELS */
 
-static size_t random_bytes(uint8_t *label)
-{
+static size_t random_bytes(uint8_t *label) {
     size_t size = below(8) == 0 ? below(LABEL_ROOM) : below(40);
     bool printable = below(2);
     for (size_t i = 0; i < size; i++)
@@ -39,8 +36,7 @@ static size_t random_bytes(uint8_t *label)
     return size;
 }
 
-static size_t add(uint8_t *label, size_t size, const char *piece)
-{
+static size_t add(uint8_t *label, size_t size, const char *piece) {
     size_t length = strlen(piece);
     if (size + length > LABEL_ROOM)
         return size;
@@ -48,8 +44,7 @@ static size_t add(uint8_t *label, size_t size, const char *piece)
     return size + length;
 }
 
-static size_t add_unit(uint8_t *label, size_t size, uint32_t notation)
-{
+static size_t add_unit(uint8_t *label, size_t size, uint32_t notation) {
     static const char *const prefixes[] = {"", "", "", "k", "m", "da", "u", "P"};
     static const char *const units[] = {"m", "g", "s", "Hz", "yr", "a", "pix", "count", "ohm", "angstrom", "furlong", "erg", "h", "d", "solMass", "'xyz'", "%"};
     static const char *const powers[] = {"2", "-1", "(1/2)", "(1.5)", "+3", "(1/7)", "100", "(-3/20)"};
@@ -64,8 +59,7 @@ static size_t add_unit(uint8_t *label, size_t size, uint32_t notation)
 }
 
 /* pieces of labels in the notation's manner: many are accepted */
-static size_t random_text(uint8_t *label, uint32_t notation)
-{
+static size_t random_text(uint8_t *label, uint32_t notation) {
     static const char *const joins[5][4] = {{".", " ", "/", "*"}, {" ", "*", ".", " "}, {" ", "*", " / ", "/"}, {".", ".", "/", "/"}, {".", ".", ".", "."}};
     static const char *const factors[5][3] = {{"10", "1", "10+3"}, {"10**3 ", "10^-2", "10+3"}, {"10**3 ", "100", "10**(-5)"}, {"10+3", "10", "1"}, {"10**3", "100", "10**(7)"}};
     unsigned kind = notation <= 4 ? (unsigned)notation : 0, terms = below(10) == 0 ? 1 + below(40) : 1 + below(5), open = 0;
@@ -98,8 +92,7 @@ static struct vector vectors[1000];
 static unsigned vector_count;
 
 /* the next notation number and bytes in hexadecimal */
-static bool scan_vector(FILE *f, struct vector *v)
-{
+static bool scan_vector(FILE *f, struct vector *v) {
     static char hex[4096];
     unsigned notation, byte;
     if (fscanf(f, "%u %4095s", &notation, hex) != 2)
@@ -111,14 +104,12 @@ static bool scan_vector(FILE *f, struct vector *v)
     return true;
 }
 
-static void skip_line(FILE *f)
-{
+static void skip_line(FILE *f) {
     for (int c = getc(f); c != EOF && c != '\n'; c = getc(f))
         continue;
 }
 
-static FILE *open_vectors(const char *name)
-{
+static FILE *open_vectors(const char *name) {
     FILE *f = fopen(name, "r");
     if (!f) {
         perror(name);
@@ -127,8 +118,7 @@ static FILE *open_vectors(const char *name)
     return f;
 }
 
-static void read_vectors(const char *name)
-{
+static void read_vectors(const char *name) {
     FILE *f = open_vectors(name);
     for (; vector_count < sizeof vectors / sizeof vectors[0] && scan_vector(f, &vectors[vector_count]); vector_count++)
         skip_line(f);
@@ -138,8 +128,7 @@ static void read_vectors(const char *name)
 }
 
 /* a label of the file with some bytes changed, put in or taken out */
-static size_t mutated(uint8_t *label)
-{
+static size_t mutated(uint8_t *label) {
     static const char signs[] = "()/*.+-^ '%0123459kmsgdah\x7f\xff";
     const struct vector *v = &vectors[below(vector_count)];
     size_t size = v->size;
@@ -161,8 +150,7 @@ static size_t mutated(uint8_t *label)
 }
 
 /* a label made in one of three ways */
-static size_t random_label(uint8_t *label, uint32_t notation)
-{
+static size_t random_label(uint8_t *label, uint32_t notation) {
     unsigned kind = below(4);
     return kind == 0 ? random_bytes(label) : kind == 1 ? mutated(label) : random_text(label, notation);
 }

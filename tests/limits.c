@@ -5,8 +5,7 @@
 
 static int tried, wrong;
 
-static void expect_bytes(uint32_t notation, const uint8_t *text, size_t size, unsigned number, size_t count, int k)
-{
+static void expect_bytes(uint32_t notation, const uint8_t *text, size_t size, unsigned number, size_t count, int k) {
     uint8_t record[THALINGUZE_RECORD_SIZE] = {0};
     uint32_t answer = thalinguze_read(notation, text, size, record, sizeof record);
     tried++;
@@ -17,14 +16,12 @@ static void expect_bytes(uint32_t notation, const uint8_t *text, size_t size, un
            answer, thalinguze_count(record), thalinguze_k(record), number, count, k);
 }
 
-static void expect(uint32_t notation, const char *text, unsigned number, size_t count, int k)
-{
+static void expect(uint32_t notation, const char *text, unsigned number, size_t count, int k) {
     expect_bytes(notation, (const uint8_t *)text, strlen(text), number, count, k);
 }
 
 /* so many times a text, one behind the other */
-static const char *times(int n, const char *text)
-{
+static const char *times(int n, const char *text) {
     static char made[4096];
     made[0] = 0;
     for (int i = 0; i < n; i++)
@@ -32,16 +29,14 @@ static const char *times(int n, const char *text)
     return made;
 }
 
-static const char *joined(const char *a, const char *b, const char *c)
-{
+static const char *joined(const char *a, const char *b, const char *c) {
     static char made[4096];
     snprintf(made, sizeof made, "%s%s%s", a, b, c);
     return made;
 }
 
 /* the letters m, joined by a separator */
-static const char *terms(int n, const char *separator)
-{
+static const char *terms(int n, const char *separator) {
     static char made[4096];
     strcpy(made, "m");
     for (int i = 1; i < n; i++) {
@@ -51,8 +46,7 @@ static const char *terms(int n, const char *separator)
     return made;
 }
 
-static const char *nested(int n)
-{
+static const char *nested(int n) {
     static char opened[512], made[1024];
     strcpy(opened, times(n, "("));
     snprintf(made, sizeof made, "%sm%s", opened, times(n, ")"));
@@ -60,8 +54,7 @@ static const char *nested(int n)
 }
 
 /* notation numbers, bytes, terms and brackets */
-static void sizes(void)
-{
+static void sizes(void) {
     const char *const separators[] = {"", ".", " ", ".", "."};
     expect(0, "m", 1, 0, 0);
     expect(5, "m", 1, 0, 0);
@@ -89,8 +82,7 @@ static void sizes(void)
 }
 
 /* exponents: 99 and 100, and digit runs of 4 and 5 */
-static void whole_exponents(void)
-{
+static void whole_exponents(void) {
     const char *const power[] = {"", "**", "**", "", "**"};
     for (uint32_t n = 1; n <= 4; n++) {
         expect(n, joined("m", power[n], "99"), 0, 1, 0);
@@ -104,8 +96,7 @@ static void whole_exponents(void)
     }
 }
 
-static void fractions(void)
-{
+static void fractions(void) {
     expect(1, "m(99.5)", 5, 0, 0);
     expect(1, "m(1/7)", 5, 0, 0);
     expect(1, "m(7/14)", 0, 1, 0);
@@ -124,8 +115,7 @@ static void fractions(void)
 }
 
 /* factors: k 99 and 100 under each sign, in every form that the notation has */
-static void factors(void)
-{
+static void factors(void) {
     static const struct {
         uint32_t notation;
         const char *before, *after;
@@ -152,8 +142,7 @@ static void factors(void)
     }
 }
 
-int main(void)
-{
+int main(void) {
     sizes();
     whole_exponents();
     fractions();

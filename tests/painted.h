@@ -22,16 +22,14 @@ static size_t unpainted; /* words from here on may have changed */
 static uintptr_t called_from;
 static uint8_t painted_record[ROOM_FOR_RECORD];
 
-static void *make_call(void *of)
-{
+static void *make_call(void *of) {
     const struct call *c = of;
     called_from = (uintptr_t)__builtin_frame_address(0);
     c->read(c->notation, c->label, c->size, painted_record, c->record_size);
     return NULL;
 }
 
-static void run_on_painted_stack(struct call *c)
-{
+static void run_on_painted_stack(struct call *c) {
     pthread_attr_t attributes;
     pthread_t thread;
     for (size_t i = unpainted; i < STACK_WORDS; i++)
@@ -46,8 +44,7 @@ static void run_on_painted_stack(struct call *c)
 
 /* Bytes from the caller's frame to the deepest one that changed. The caller's own few bytes are counted in, and so is what the thread's
    end takes where that is more; what is above the caller's frame is not counted. */
-static size_t stack_use(struct call c)
-{
+static size_t stack_use(struct call c) {
     make_call(&c); /* so that no function is bound while the call is measured */
     run_on_painted_stack(&c);
     size_t deepest = 0;

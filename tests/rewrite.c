@@ -11,8 +11,7 @@ enum { ROOM = 4096 };
 static struct arena label_arena, buffer_arena;
 
 /* the answer, and its result at the start of `result` */
-static bool rewrite(const struct label *l, uint32_t target, size_t size, unsigned where, struct thalinguze_rewritten *answer, uint8_t *result)
-{
+static bool rewrite(const struct label *l, uint32_t target, size_t size, unsigned where, struct thalinguze_rewritten *answer, uint8_t *result) {
     uint8_t *label = lend(&label_arena, l, where), *buffer = place(&buffer_arena, size, where, FILL);
     *answer = thalinguze_rewrite(l->notation, label, l->size, target, buffer, size);
     if (answer->length > size || answer->length > THALINGUZE_MAX_LABEL_SIZE || (answer->number != 0 && answer->length != 0))
@@ -22,8 +21,7 @@ static bool rewrite(const struct label *l, uint32_t target, size_t size, unsigne
     return kept(&label_arena, l, label) && outside_kept(&buffer_arena, buffer, answer->length, FILL);
 }
 
-int main(void)
-{
+int main(void) {
     static struct label l;
     uint32_t target;
     size_t size;

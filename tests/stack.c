@@ -51,8 +51,7 @@ static struct worst worst;
 static unsigned long calls;
 
 /* with room for the whole record, and with less */
-static void measure_call(unsigned which, uint32_t notation, const uint8_t *label, size_t size)
-{
+static void measure_call(unsigned which, uint32_t notation, const uint8_t *label, size_t size) {
     size_t record_size = calls % 2 ? calls % THALINGUZE_RECORD_SIZE : ROOM_FOR_RECORD;
     size_t use = stack_use((struct call){measured[which].call, notation, label, size, record_size});
     if (use <= worst.use)
@@ -64,16 +63,14 @@ static void measure_call(unsigned which, uint32_t notation, const uint8_t *label
     memcpy(worst.label, label, size);
 }
 
-static void measure(uint32_t notation, const uint8_t *label, size_t size)
-{
+static void measure(uint32_t notation, const uint8_t *label, size_t size) {
     for (unsigned which = 0; which < sizeof measured / sizeof measured[0]; which++)
         measure_call(which, notation, label, size);
     calls++;
 }
 
 /* the shape with as many repeats as fit into the bytes of a label, and with fewer */
-static void measure_shape(const struct shape *shape, unsigned times)
-{
+static void measure_shape(const struct shape *shape, unsigned times) {
     static uint8_t label[LABEL_ROOM];
     size_t once = strlen(shape->opening) + strlen(shape->closing), rest = strlen(shape->start) + strlen(shape->core);
     size_t most = (THALINGUZE_MAX_LABEL_SIZE - rest) / once, size = add(label, 0, shape->start);
@@ -90,8 +87,7 @@ static void measure_shape(const struct shape *shape, unsigned times)
     }
 }
 
-static void print_worst(size_t limit)
-{
+static void print_worst(size_t limit) {
     enum { SHOWN = 24 };
     printf("%lu readings, rewritings and conversions each took at most %zu bytes of stack, %zu allowed: %s, notation %u, %zu bytes, ", calls,
            worst.use, limit, worst.name, (unsigned)worst.notation, worst.size);
@@ -100,8 +96,7 @@ static void print_worst(size_t limit)
     printf("%s\n", worst.size > SHOWN ? ".." : "");
 }
 
-int main(int argc, char **argv)
-{
+int main(int argc, char **argv) {
     static const unsigned repeats[REPEATS] = {0, 8, 9, 31, 32};
     size_t limit = argc > 1 ? strtoul(argv[1], NULL, 10) : LIMIT;
     unsigned long count = argc > 2 ? strtoul(argv[2], NULL, 10) : 30000;

@@ -6,7 +6,7 @@
 # make bench: how long reading takes and how much stack, beside other readers; see docs/PERFORMANCE.md. make clean: removes build/.
 NOTATION = all
 export LABEL = kg/m.s
-COUNT = 250000
+COUNT = 300000
 SEED = 1
 CC = gcc
 CFLAGS = -std=c11 -O2 -Wall -Wextra -Werror

@@ -23,14 +23,19 @@ import time
 ROOT = os.path.dirname(os.path.dirname(os.path.abspath(__file__)))
 LISTS = os.path.join(ROOT, "tests", "mutants")
 KINDS = ("operand", "constant", "field", "dropped case", "wrong entry", "order", "definition", "definition and code", "claim")
+# what is compared, by which command, and the crates whose change it can see
 COMPARISONS = (
-    ("stored readings", ["tests/vectors.sh"]),
-    ("limits", ["build/tests/limits"]),
-    ("header", ["tests/header.sh"]),
-    ("lines", ["tests/lines.sh"]),
-    ("second implementation", ["tests/independent.sh"]),
+    ("stored readings", ["tests/vectors.sh"], ("face",)),
+    ("limits", ["build/tests/limits"], ("face",)),
+    ("header", ["tests/header.sh"], ("face",)),
+    ("line program", ["tests/lines.sh"], ("label_lines",)),
+    ("second implementation", ["tests/independent.sh"], ("face", "label_lines")),
 )
-PROGRAMS = ["all"] + ["build/tests/" + name for name in ("limits", "header", "print_labels", "rewrite", "convert")]
+# what is made of a crate for the comparisons
+MADE = {
+    "face": ["build/libthalinguze.a", "build/thalinguze"] + ["build/tests/" + name for name in ("limits", "header", "print_labels", "rewrite", "convert")],
+    "label_lines": ["build/label-lines"],
+}
 
 
 class Mutant:
@@ -119,15 +124,16 @@ class Copy:
 
     def __init__(self, place):
         self.root = os.path.join(place, "repository")
-        self.saved = os.path.join(place, "target")
+        self.saved, self.built = os.path.join(place, "target"), os.path.join(place, "build")
         if not os.path.exists(self.saved):
             shutil.copytree(ROOT, self.root, symlinks=True, ignore=shutil.ignore_patterns(".git"))
             self.need(["rt", "check"])
             for crate in CRATES:
                 self.need(["rt", "dev", crate])
-            self.need(["make", "--silent"] + PROGRAMS)
+            self.need(["make", "--silent"] + MADE["face"] + MADE["label_lines"])
             self.need(["tests/second.sh", "5000", "1", "all"])
             self.need(["tests/independent.sh"])
+            shutil.copytree(os.path.join(self.root, "build"), self.built)
             shutil.copytree(os.path.join(self.root, "target"), self.saved, ignore=shutil.ignore_patterns("inc"))
 
     def need(self, command):
@@ -150,10 +156,13 @@ class Copy:
                 source.write(text.replace(old, new))
         return before
 
-    def restore(self, before, proved):
+    def restore(self, before, proved, made):
         for path, text in before.items():
             with open(path, "w", encoding="utf-8") as source:
                 source.write(text)
+        if made:
+            shutil.rmtree(os.path.join(self.root, "build"))
+            shutil.copytree(self.built, os.path.join(self.root, "build"))
         target = os.path.join(self.root, "target")
         for crate in proved:
             for part in ("rlib/%s.rlib", "stamp/%s", "bin/%s", "obj/%s.o"):
@@ -188,8 +197,8 @@ def refusal(crate, said):
     return "refused", crate + ": " + error
 
 
-def ask(copy, mutant, proved):
-    """the verdict on a mutant, and where it comes from"""
+def ask(copy, mutant, proved, made):
+    """the verdict on a mutant, and where it comes from; the crates that were proved anew and what was made of them are put down"""
     changed = mutant.changed()
     for crate in changed:
         proved.update(changed[: changed.index(crate)])
@@ -197,21 +206,27 @@ def ask(copy, mutant, proved):
         if status != 0:
             return refusal(crate, said)
     later = depending_on(changed)
-    for crate in changed + [c for c in later if c in mutant.ask] + [c for c in later if c not in mutant.ask and c != "face"]:
-        proved.update([crate] + [c for c in CRATES if c in CRATES[crate] and c in later])
+    first = [crate for crate in later if crate in mutant.ask]
+    for crate in changed + first + [crate for crate in later if crate not in first]:
+        proved.update([crate] + [c for c in later if c in CRATES[crate]])
+        if crate == "face":
+            continue
         status, said = copy.run(["rt", "check", crate])
         if status != 0:
             failed = re.search(r"^rt: FAILED: (\S+)", said, re.M)
             return refusal(failed.group(1) if failed else crate, said)
-    proved.update(later)
-    status, said = copy.run(["make", "--silent"] + PROGRAMS)
-    if status != 0:
-        with open(os.path.join(copy.root, "build/library.log"), encoding="utf-8") as log:
-            return refusal("face", log.read())
-    for name, command in COMPARISONS:
-        status, said = copy.run(command)
+    # rt check of face would prove it once more than the making of its library does
+    for crate in (c for c in MADE if c in proved):
+        made.add(crate)
+        status, said = copy.run(["make", "--silent"] + MADE[crate])
         if status != 0:
-            return "caught", name + ": " + said.strip().split("\n")[-1][:160]
+            with open(os.path.join(copy.root, "build/library.log"), encoding="utf-8") as log:
+                return refusal(crate, log.read())
+    for name, command, seen in COMPARISONS:
+        if made.intersection(seen):
+            status, said = copy.run(command)
+            if status != 0:
+                return "caught", name + ": " + said.strip().split("\n")[-1][:160]
     return ("equivalent" if mutant.equivalent else "survived"), ""
 
 
@@ -221,20 +236,65 @@ def run(names, results):
     copy = Copy(place)
     os.makedirs(os.path.dirname(results), exist_ok=True)
     for mutant in wanted:
-        began, proved = time.time(), set()
+        began, proved, made = time.time(), set(), set()
         wrong = fault(mutant, copy.root)
         if wrong:
             verdict, where = "error of the list", wrong
         else:
             before = copy.apply(mutant)
-            verdict, where = ask(copy, mutant, proved)
-            copy.restore(before, proved)
+            verdict, where = ask(copy, mutant, proved, made)
+            copy.restore(before, proved, made)
         line = "%s\t%s\t%s\t%d" % (mutant.title(), verdict, where.replace("\t", " ").replace("\n", " "), time.time() - began)
         print(line, flush=True)
         with open(results, "a", encoding="utf-8") as out:
             out.write(line + "\n")
     if not os.environ.get("MUTANTS_PLACE"):
         shutil.rmtree(place)
+
+
+VERDICTS = ("refused", "caught", "equivalent", "survived")
+
+
+def tally(title, rows, answers):
+    """a table with the counts of each verdict in each of the rows: a name and its mutants"""
+    print("| %s | Mutants | Refused by a proof | Caught by a comparison | Equivalent | Survived |" % title)
+    print("|---|---|---|---|---|---|")
+    rows.append(("all", [m for _, mutants in rows for m in mutants]))
+    for name, mutants in rows:
+        verdicts = [answers[m.title()][0] for m in mutants]
+        print("| %s | %d | %s |" % (name, len(mutants), " | ".join(str(verdicts.count(v)) for v in VERDICTS)))
+    print()
+
+
+def document(results):
+    answers = {}
+    with open(results, encoding="utf-8") as lines:
+        for line in lines:
+            title, verdict, where, _ = line.rstrip("\n").split("\t")
+            answers[title] = (verdict, where)
+    mutants = all_mutants()
+    missing = [m.title() for m in mutants if answers.get(m.title(), ("",))[0] not in VERDICTS]
+    if missing:
+        sys.exit("not asked, or errors of the list: " + " ".join(missing))
+    tally("Crate", [("`%s`" % c, [m for m in mutants if m.crate == c]) for c in CRATES], answers)
+    tally("Kind of edit", [(k, [m for m in mutants if m.kind == k]) for k in KINDS], answers)
+    elsewhere = [m for m in mutants if answers[m.title()][0] == "refused" and not answers[m.title()][1].startswith(m.changed()[0] + ":")]
+    print("Refused by the proofs of another crate than the first one changed: %d." % len(elsewhere))
+    print()
+    print("| Mutant | What it would break | Refused in |")
+    print("|---|---|---|")
+    for m in elsewhere:
+        print("| `%s` | %s | `%s` |" % (m.title(), m.breaks, answers[m.title()][1].split(":")[0]))
+    print()
+    for verdict in VERDICTS[1:]:
+        found = [m for m in mutants if answers[m.title()][0] == verdict]
+        if found:
+            print("| %s | What it would break | By, and why |" % verdict.capitalize())
+            print("|---|---|---|")
+            for m in found:
+                where = answers[m.title()][1].split(":")[0]
+                print("| `%s` | %s | %s |" % (m.title(), m.breaks, ": ".join(w for w in (where, m.equivalent or m.reason) if w)))
+            print()
 
 
 def main():

@@ -200,15 +200,13 @@ def refusal(crate, said):
 def ask(copy, mutant, proved, made):
     """the verdict on a mutant, and where it comes from; the crates that were proved anew and what was made of them are put down"""
     changed = mutant.changed()
-    for crate in changed:
-        proved.update(changed[: changed.index(crate)])
-        status, said = copy.run(["rt", "dev", crate])
-        if status != 0:
-            return refusal(crate, said)
-    later = depending_on(changed)
-    first = [crate for crate in later if crate in mutant.ask]
-    for crate in changed + first + [crate for crate in later if crate not in first]:
-        proved.update([crate] + [c for c in later if c in CRATES[crate]])
+    status, said = copy.run(["rt", "dev", changed[0]])
+    if status != 0:
+        return refusal(changed[0], said)
+    asked = [crate for crate in CRATES if crate in changed or crate in depending_on(changed)]
+    first = [crate for crate in asked if crate in mutant.ask]
+    for crate in first + [crate for crate in asked if crate not in first]:
+        proved.update([crate] + [c for c in asked if c in CRATES[crate]])
         if crate == "face":
             continue
         status, said = copy.run(["rt", "check", crate])

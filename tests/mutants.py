@@ -1,5 +1,5 @@
 #!/usr/bin/env python3
-"""usage: mutants.py [--check] [--results FILE] [NAME..]
+"""usage: mutants.py [--check] [--results FILE] [--document FILE] [NAME..]
 
 Applies the edits of tests/mutants/*.txt, one after the other, to a copy of the repository and asks the proofs and then the compared
 tests. NAME is a crate or CRATE/MUTANT; all mutants without one. --check only tells whether each edit fits. The answers are printed and
@@ -11,7 +11,8 @@ occurs once in its file; the sign ⏎ stands for the end of a line. `equivalent:
 why a comparison and no proof is what catches it.
 
 Asked in this order, until one of them refuses: the proofs of the changed crates; those of the crates that depend on them; the vectors,
-the limits, the header, the line program, and the second implementation."""
+the limits, the header, the line program, and the second implementation. The copy is in a temporary folder, or in the folder that
+MUTANTS_PLACE names, which is kept for the next run."""
 import os
 import re
 import shutil
@@ -281,7 +282,7 @@ def document(results):
     tally("Crate", [("`%s`" % c, [m for m in mutants if m.crate == c]) for c in CRATES], answers)
     tally("Kind of edit", [(k, [m for m in mutants if m.kind == k]) for k in KINDS], answers)
     elsewhere = [m for m in mutants if answers[m.title()][0] == "refused" and not answers[m.title()][1].startswith(m.changed()[0] + ":")]
-    print("Refused by the proofs of another crate than the first one changed: %d." % len(elsewhere))
+    print("These are refused by the proofs of a crate that depends on the first one changed; all other refusals are by that crate's own.")
     print()
     print("| Mutant | What it would break | Refused in |")
     print("|---|---|---|")
@@ -291,7 +292,7 @@ def document(results):
     for verdict in VERDICTS[1:]:
         found = [m for m in mutants if answers[m.title()][0] == verdict]
         if found:
-            print("| %s | What it would break | By, and why |" % verdict.capitalize())
+            print("| %s | What it would break | %s |" % (verdict.capitalize(), "Why" if verdict == "equivalent" else "By, and why"))
             print("|---|---|---|")
             for m in found:
                 where = answers[m.title()][1].split(":")[0]

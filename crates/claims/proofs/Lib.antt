@@ -11,4 +11,5 @@ pub mod Inverses
 pub mod Bounds
 pub mod Scales
 pub mod Sizings
+pub mod Lines
 pub mod Proved

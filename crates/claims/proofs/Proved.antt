@@ -12,13 +12,14 @@ use Rattle.label.proofs.Refusing.{fourteen-due, earlier-due}
 use Rattle.label.specs.Samples.{SamplesHold}
 use Rattle.claims.proofs.Lowest.{lowest}
 use Rattle.claims.proofs.Sixtieths.{whole-divides, divides-whole}
-use Rattle.claims.specs.Claims.{ParseIsTheGrammar, ParseRefusesTheRest, Unambiguous, RefusalsAreTheConditions, BoundsAreKept, RefusalsAreEmpty, ZeroIsAcceptance, AcceptedContent, ExponentsAsWritten, AnswersComeFromTheTerms, KnownVerdict, LawfulVerdict, RecommendedVerdict, DimensionsAreSums, ScaleIsASum, AtMostOneKnownRest, SixtiethsAreTheBound, ShownInLowestTerms, GrammarsAgree, NotationsAgree, RewrittenReadsAsTheSame, RewritingRefusals, RefusedRewritesAreEmpty, FourteenIsAShortBuffer, EarlierWhateverTheBuffer, OwnNotationHasForms, RewrittenOnceForAll}
+use Rattle.claims.specs.Claims.{ParseIsTheGrammar, ParseRefusesTheRest, Unambiguous, RefusalsAreTheConditions, BoundsAreKept, RefusalsAreEmpty, ZeroIsAcceptance, AcceptedContent, ExponentsAsWritten, AnswersComeFromTheTerms, KnownVerdict, LawfulVerdict, RecommendedVerdict, DimensionsAreSums, ScaleIsASum, AtMostOneKnownRest, SixtiethsAreTheBound, ShownInLowestTerms, GrammarsAgree, NotationsAgree, RewrittenReadsAsTheSame, RewritingRefusals, RefusedRewritesAreEmpty, FourteenIsAShortBuffer, EarlierWhateverTheBuffer, OwnNotationHasForms, RewrittenOnceForAll, MalformedLines, OtherLines}
 use Rattle.claims.proofs.Conversions.{factor-once}
 use Rattle.claims.proofs.ConversionAnswers.{gives-converts, number-due, due-refused, zero-undue}
 use Rattle.claims.proofs.Inverses.{converts-itself, converts-inverse}
 use Rattle.claims.proofs.Bounds as bounds
 use Rattle.claims.proofs.ConversionLimits as limits
 use Rattle.claims.proofs.Sizings as sizings
+use Rattle.claims.proofs.Lines as lines
 use Rattle.claims.specs.Sizing.{SizesGiveTheFactor, FractionExactlyIf}
 use Rattle.claims.specs.Converting.{OneFactor, ConvertsExactlyIf, ConversionRefusals, RefusedConversions, ConversionSucceeds, ItselfByOne, BackByTheInverse, WithinLimits, ExponentsBounded, RatiosBounded}
 
@@ -144,3 +145,9 @@ sizes-give-the-factor r q n d k = sizings.sizes-give-the-factor r q n d k
 
 pub fraction-exactly-if : FractionExactlyIf
 fraction-exactly-if r q = sizings.fraction-exactly-if r q
+
+pub malformed-lines : MalformedLines
+malformed-lines s h = lines.malformed-lines s h
+
+pub other-lines : OtherLines
+other-lines s h e = lines.other-lines s h e

@@ -1,13 +1,16 @@
 -- The page of claims. Each is stated here, in the words of the crate label's specs/, and proved in proofs/Proved.antt.
-use Prim.Native.Nat.{ℕ, _≤_, _<_, _*_}
+use Prim.Native.Nat.{ℕ, suc, _≤_, _<_, _*_}
 use mathlib.Core.Path.{_≡_}
 use mathlib.Core.Bool.{true}
 use mathlib.Core.List.{List, [], _∷_}
 use mathlib.Core.Option.{Option, some}
-use mathlib.Core.Logic.{_↔_}
+use mathlib.Core.Logic.{_↔_, _⊎_}
+use lib.Dec.{eqb}
 use lib.IntN.{ℤ, pos, _+ℤ_, _*ℤ_, natAbs}
 use lib.ListN.{length}
 use Rattle.label.specs.declared.Exponent.{Exponent}
+use Rattle.label.specs.Bytes.{bytes, tab}
+use Rattle.label.specs.Choice.{pick}
 use Rattle.label.specs.Notations.{notation}
 use Rattle.label.specs.Symbols.{known, known-cuts}
 use Rattle.label.specs.Lexical.{Factor, Part}
@@ -18,7 +21,8 @@ use Rattle.label.specs.Split.{Split, Valued, valued, Refused, Accepts}
 use Rattle.label.specs.Reading.{Term, reading-of, reading}
 use Rattle.label.specs.Agreement.{Gives}
 use Rattle.label.specs.Meaning.{_∈_, Prefixable, Named, unrecommended, Sum, BaseIn, dimension, PrimeIn, prime-in-ten, scale-exponent, Empty, AsWritten, PowerKeeps, FactorKeeps}
-use Rattle.label.specs.Writing.{refuse, rewriting, rewriting-into, Refuses, SameContent}
+use Rattle.label.specs.Writing.{rewriting, rewriting-into, Refuses, SameContent}
+use Rattle.label.specs.Lines.{fields, answer-fields, answer}
 
 -- DEMAND 2, READING
 
@@ -150,7 +154,7 @@ abbrev pub RewritingRefusals : Type 0
 RewritingRefusals = (n : ℕ) (s : List ℕ) (m i : ℕ) → 1 ≤ i → (rewriting n s m .number ≡ i) ↔ Refuses n s m i
 
 abbrev pub RefusedRewritesAreEmpty : Type 0
-RefusedRewritesAreEmpty = (n : ℕ) (s : List ℕ) (m i : ℕ) → Refuses n s m i → rewriting n s m ≡ refuse i
+RefusedRewritesAreEmpty = (n : ℕ) (s : List ℕ) (m i : ℕ) → Refuses n s m i → rewriting n s m ≡ record { number = i; text = [] }
 
 -- 14 is given exactly when "the lent buffer is shorter than the result" (a refused rewriting has no bytes), and 1 to 13 as without a buffer.
 abbrev pub FourteenIsAShortBuffer : Type 0
@@ -169,3 +173,18 @@ RewrittenOnceForAll =
     (n : ℕ) (s : List ℕ) (m : ℕ)
     → rewriting n s m .number ≡ 0
     → rewriting m (rewriting n s m .text) m ≡ record { number = 0; text = rewriting n s m .text }
+
+-- LINES
+
+-- how many bytes of s are b
+unfoldable pub count-of : ℕ → List ℕ → ℕ
+count-of b [] = 0
+count-of b (c ∷ s) = pick (eqb c b) (suc (count-of b s)) (count-of b s)
+
+-- "Not three tabs, or over 512 bytes without the newline: id empty, 15, checked before all others."
+abbrev pub MalformedLines : Type 0
+MalformedLines = (s : List ℕ) → (512 < length s) ⊎ (count-of tab s ≡ 3 → ⊥) → answer s ≡ bytes "\t15\t"
+
+-- Any other line is answered by its four fields.
+abbrev pub OtherLines : Type 0
+OtherLines = (s : List ℕ) → length s ≤ 512 → count-of tab s ≡ 3 → (length (fields s) ≡ 4) × (answer s ≡ answer-fields (fields s))

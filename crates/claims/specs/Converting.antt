@@ -10,7 +10,7 @@ use Rattle.label.specs.Symbols.{unknown}
 use Rattle.label.specs.Limits.{parts-of-one}
 use Rattle.label.specs.Split.{Condition, Refused}
 use Rattle.label.specs.Reading.{Term, Reading, base-in, prime-in, total, primes, reading}
-use Rattle.label.specs.Conversion.{Conversion, refuse, conversion}
+use Rattle.label.specs.Conversion.{Conversion, conversion}
 use Rattle.claims.specs.Fractions.{Exact}
 
 -- UNITS, DIMENSIONS AND SCALES
@@ -114,7 +114,10 @@ ConversionRefusals = (n : ℕ) (s : List ℕ) (m : ℕ) (t : List ℕ) (i : ℕ)
 
 -- "A refused conversion is 0/1, k = 0."
 abbrev pub RefusedConversions : Type 0
-RefusedConversions = (n : ℕ) (s : List ℕ) (m : ℕ) (t : List ℕ) (i : ℕ) → Due n s m t i → conversion n s m t ≡ refuse i
+RefusedConversions =
+    (n : ℕ) (s : List ℕ) (m : ℕ) (t : List ℕ) (i : ℕ)
+    → Due n s m t i
+    → conversion n s m t ≡ record { number = i; numerator = 0; denominator = 1; k = record { 0 = pos 0 } }
 
 -- 0 is answered exactly when no refusal is due, and then there is a fraction.
 abbrev pub ConversionSucceeds : Type 0

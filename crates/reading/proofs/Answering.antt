@@ -24,7 +24,7 @@ use Rattle.content.proofs.Naming.{all-in-at, terms-length, nth-term}
 use Rattle.checks.specs.Checks.{units-in, Checks}
 use Rattle.reading.proofs.Lettering.{spelt-at, letters-some, noted-at}
 use Rattle.reading.specs.Views.{reading-in}
-use Rattle.reading.specs.Answers.{answer, Reads}
+use Rattle.reading.specs.Answers.{answer, refused, Reads}
 
 -- a label that no refusal is due for
 pub record Accepted (n : ℕ) (s : List ℕ) (k : Tens) (t : Lent) (x : List ℕ) (ds cs : List ℤ) (v : Verdicts) : Type 0 where
@@ -57,10 +57,11 @@ module _ {n : ℕ} {s : List ℕ} {z : Lent} {c : Checked} (w : Checks n s z c) 
     refuses : checked n s ≡ refuse (c .number)
     refuses = w .is ∙ rw (not-true (c .ok) t)
 
-    pub read₁ : {x : List ℕ} {ds cs : List ℤ} {r : Answer} → r .number ≡ c .number → Reads n s z x ds cs r
+    pub read₁ : {x : List ℕ} {ds cs : List ℤ} → Reads n s z x ds cs (refused (c .number))
     unfolding reading answered refusal
-    read₁ e = let h = refused-number n s refuses in record {
-      number = e ∙ sym (rw refuses);
+    read₁ = let h = refused-number n s refuses in record {
+      number = sym (rw refuses);
+      empty = λ q. refl;
       is = λ q. absurd (omega arith);
       primes = λ q. absurd (omega arith);
       counted = λ q. absurd (omega arith);
@@ -80,6 +81,7 @@ module _ {n : ℕ} {s : List ℕ} {z : Lent} {c : Checked} (w : Checks n s z c) 
     unfolding reading answered reading-of reading-in
     read₂ {x} {ds} {cs} {v} a = record {
       number = ap (λ (u : spec.Reading). u .number) whole;
+      empty = λ q. absurd (omega arith);
       is = λ q. whole;
       primes = λ q. a .primes;
       counted = λ q. sym (terms-length s z x (count z)) ∙ ap (λ (u : spec.Reading). length (u .terms)) whole;

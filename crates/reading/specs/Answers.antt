@@ -1,8 +1,9 @@
 -- What the functions that read a label answer.
 use Prim.Native.Nat.{ℕ, _+_, _≤_, _<_}
 use mathlib.Core.Path.{_≡_}
+use mathlib.Core.Bool.{false}
 use mathlib.Core.List.{List}
-use lib.IntN.{ℤ}
+use lib.IntN.{ℤ, pos}
 use lib.ListN.{length, getD}
 use Rattle.label.specs.declared.Tens.{Tens}
 use Rattle.label.specs.Reading.{reading}
@@ -24,6 +25,10 @@ pub record Fresh (t : Lent) (x : List ℕ) (zs : List ℤ) : Type 0 where
 abbrev pub answer : Tens → Verdicts → Answer
 answer k v = record { number = 0; k = k; known = v .known; lawful = v .lawful; recommended = v .recommended }
 
+-- "A refused reading has .. k = 0 .. and all verdicts no."
+abbrev pub refused : ℕ → Answer
+refused i = record { number = i; k = record { 0 = pos 0 }; known = false; lawful = false; recommended = false }
+
 -- the letters of the unknown unit of term i, one or more, are in the term's spelling
 pub record Lettered (t : Lent) (x : List ℕ) (i : ℕ) : Type 0 where
   pub from : getD (t .places) i 0 ≤ getD x (64 + i) 0
@@ -39,6 +44,7 @@ pub record LettersNoted (s : List ℕ) (t : Lent) (x : List ℕ) (i : ℕ) : Typ
 -- at most 32 terms, whose spellings are in the label, and the letters of an unknown unit are in its term's spelling.
 pub record Reads (n : ℕ) (s : List ℕ) (t : Lent) (x : List ℕ) (ds cs : List ℤ) (r : Answer) : Type 0 where
   pub number : r .number ≡ reading n s .number
+  pub empty : 0 < r .number → r ≡ refused (r .number)
   pub is : r .number ≡ 0 → reading-in s t x ds cs r ≡ reading n s
   pub primes : r .number ≡ 0 → length cs ≡ 4
   pub counted : r .number ≡ 0 → count t ≡ length (reading n s .terms)

@@ -34,16 +34,16 @@ pub fn read(
         (now (names .exit)) (take 32 (now (sums .exit))) (drop 32 (now (sums .exit))) r ⌝ }
 {
     let c = check(n, s, places, exponents);
-    let k = c.k;
     if !c.ok {
         return Answer {
             number: c.number,
-            k,
+            k: Tens(0),
             known: false,
             lawful: false,
             recommended: false,
         };
     }
+    let k = c.k;
     let count = places[64];
     all_named(n as u8, s, places, exponents, names);
     add_up(k, count, exponents, names, sums);

@@ -34,7 +34,7 @@ COMPARISONS = (
 )
 # what is made of a crate for the comparisons
 MADE = {
-    "face": ["build/libthalinguze.a", "build/thalinguze"] + ["build/tests/" + name for name in ("limits", "header", "print_labels", "rewrite", "convert")],
+    "face": ["build/libthalinguze.a", "build/thalinguze"] + ["build/tests/" + name for name in ("limits", "header", "rewrite", "convert")],
     "label_lines": ["build/label-lines"],
 }
 

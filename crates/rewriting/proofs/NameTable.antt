@@ -23,7 +23,7 @@ use Rattle.label.specs.Writing.{name-among, name-in, prefix-letters}
 use Rattle.symbols.specs.Keys.{most-letters, key-from, key-of, agrees}
 use Rattle.symbols.specs.Sets.{has-bit}
 use Rattle.symbols.specs.Names.{Entry, entries-of, entries-from, names}
-use Rattle.symbols.specs.Columns.{name-keys, name-codes, prefix-codes, NameColumns}
+use Rattle.symbols.specs.Columns.{name-count, unit-count, name-keys, name-codes, prefix-codes, NameColumns}
 use Rattle.symbols.specs.Views.{place}
 use Rattle.symbols.proofs.Computing.{columns-compute}
 use Rattle.symbols.proofs.RowLaws.{every, every-at}
@@ -33,7 +33,7 @@ use Rattle.symbols.proofs.PrefixLaws as prefix-laws
 use Rattle.rewriting.specs.declared.name.NameRange.{NameRange}
 use Rattle.rewriting.specs.declared.name.Own.{Own}
 use Rattle.rewriting.specs.Letters.{letters-of}
-use Rattle.rewriting.specs.Names.{most-names, entry, is-named, name-of, names-in, name-at, places-from, first-places, Few, NamesOf, OwnOf}
+use Rattle.rewriting.specs.Names.{entry, is-named, name-of, names-in, name-at, places-from, first-places, Few, NamesOf, OwnOf}
 use Rattle.rewriting.specs.Units.{PrefixCode}
 
 entry-is : (i : ℕ) → laws.entry i ≡ entry i
@@ -174,26 +174,26 @@ unfolding name-among
 among-none n = refl
 
 module _ (n : ℕ) {x : NameRange} (w : Few x) where
-  pub known-no : x .end ≤ x .first → (name-at 0 ≡ name-among n (names-in x)) × (0 ≤ most-names)
+  pub known-no : x .end ≤ x .first → (name-at 0 ≡ name-among n (names-in x)) × (0 ≤ name-count)
   unfolding name-at name-among
   known-no h = (rw (no-names w h), omega arith)
 
-  pub known-first : x .first < x .end → member n (entry (x .first) .known-in) ≡ true → (name-at (x .first + 1) ≡ name-among n (names-in x)) × (x .first + 1 ≤ most-names)
+  pub known-first : x .first < x .end → member n (entry (x .first) .known-in) ≡ true → (name-at (x .first + 1) ≡ name-among n (names-in x)) × (x .first + 1 ≤ name-count)
   unfolding name-at
   known-first h f = (rw (some-names w h .1, add-one (x .first)) (sym (among-this n (name-of (entry (x .first))) _ f)), omega (arith, w .within))
 
   pub known-not-one : x .first < x .end → x .end ≤ x .first + 1 → member n (entry (x .first) .known-in) ≡ false
-      → (name-at 0 ≡ name-among n (names-in x)) × (0 ≤ most-names)
+      → (name-at 0 ≡ name-among n (names-in x)) × (0 ≤ name-count)
   unfolding name-at
   known-not-one h g f = (rw (first-name w h g) (sym (among-later n (name-of (entry (x .first))) [] f ∙ among-none n)), omega arith)
 
   module _ (h : x .first + 1 < x .end) (f : member n (entry (x .first) .known-in) ≡ false) where
-    pub known-second : member n (entry (x .first + 1) .known-in) ≡ true → (name-at (x .first + 1 + 1) ≡ name-among n (names-in x)) × (x .first + 1 + 1 ≤ most-names)
+    pub known-second : member n (entry (x .first + 1) .known-in) ≡ true → (name-at (x .first + 1 + 1) ≡ name-among n (names-in x)) × (x .first + 1 + 1 ≤ name-count)
     unfolding name-at
     known-second g =
         (rw (two-names w h, add-one (x .first + 1)) (sym (among-later n (name-of (entry (x .first))) _ f ∙ among-this n (name-of (entry (x .first + 1))) [] g)), omega (arith, w .within))
 
-    pub known-not-two : member n (entry (x .first + 1) .known-in) ≡ false → (name-at 0 ≡ name-among n (names-in x)) × (0 ≤ most-names)
+    pub known-not-two : member n (entry (x .first + 1) .known-in) ≡ false → (name-at 0 ≡ name-among n (names-in x)) × (0 ≤ name-count)
     unfolding name-at
     known-not-two g =
         (rw (two-names w h) (sym (among-later n (name-of (entry (x .first))) _ f ∙ among-later n (name-of (entry (x .first + 1))) [] g ∙ among-none n)), omega arith)
@@ -274,26 +274,26 @@ place-at : ℕ → ℕ
 place-at u = getD first-places u 0
 
 short-part : ℕ → Bool
-short-part u = leb (place-at u) (place-at (suc u)) && (leb (place-at (suc u)) 67 && leb (place-at (suc u)) (place-at u + 2))
+short-part u = leb (place-at u) (place-at (suc u)) && (leb (place-at (suc u)) name-count && leb (place-at (suc u)) (place-at u + 2))
 
-short-parts : all-below short-part 61 ≡ true
+short-parts : all-below short-part unit-count ≡ true
 unfolding all-below short-part place-at places-from first-places columns-compute
 short-parts = refl
 
-units-count : length units ≡ 61
+units-count : length units ≡ unit-count
 unfolding columns-compute
 units-count = refl
 
-module _ (u : ℕ) (h : u ≤ 60) where
+module _ (u : ℕ) (h : u < unit-count) where
   part-few : Few (record { first = place-at u; end = place-at (suc u) })
   unfolding short-part
   part-few =
-      let a = at-below short-part 61 short-parts u (omega arith) in
+      let a = at-below short-part unit-count short-parts u (omega arith) in
       let b = and-right (leb (place-at u) (place-at (suc u))) _ a in
       record {
         forward = leb-true _ _ (and-left (leb (place-at u) (place-at (suc u))) _ a);
-        within = leb-true _ _ (and-left (leb (place-at (suc u)) 67) _ b);
-        few = leb-true _ _ (and-right (leb (place-at (suc u)) 67) _ b);
+        within = leb-true _ _ (and-left (leb (place-at (suc u)) name-count) _ b);
+        few = leb-true _ _ (and-right (leb (place-at (suc u)) name-count) _ b);
       }
 
   part-names : names-in (record { first = place-at u; end = place-at (suc u) }) ≡ unit-at u .names
@@ -306,7 +306,7 @@ module _ (u : ℕ) (h : u ≤ 60) where
       let g : end ≡ getD first-places (suc u) 0 = f ∙ ap (λ (i : ℕ). getD first-places i 0) (add-one u) in
       rw (e, g) (record { part = part-few; are = part-names })
 
-pub no-unit-names : (u : ℕ) → 60 < u → NamesOf u (record { first = 0; end = 0 })
+pub no-unit-names : (u : ℕ) → unit-count ≤ u → NamesOf u (record { first = 0; end = 0 })
 unfolding names-in
 no-unit-names u h = record {
   part = record { forward = omega arith; within = omega arith; few = omega arith };

@@ -10,12 +10,9 @@ use Rattle.label.specs.Notations.{member}
 use Rattle.label.specs.Units.{Name, KnownUnit, units, unit-at}
 use Rattle.symbols.specs.Keys.{key-of, agrees}
 use Rattle.symbols.specs.Names.{Entry, names}
+use Rattle.symbols.specs.Columns.{name-count}
 use Rattle.rewriting.specs.declared.name.NameRange.{NameRange}
 use Rattle.rewriting.specs.declared.name.Own.{Own}
-
--- how many names the table has
-abbrev pub most-names : ℕ
-most-names = 67
 
 -- the entry at i of the table of names, and past its end
 unfoldable pub entry : ℕ → Entry
@@ -48,7 +45,7 @@ first-places = places-from 0 units
 -- a part of the table, of at most two names
 pub record Few (x : NameRange) : Type 0 where
   pub forward : x .first ≤ x .end
-  pub within : x .end ≤ most-names
+  pub within : x .end ≤ name-count
   pub few : x .end ≤ x .first + 2
 
 -- the names of the unit of row u

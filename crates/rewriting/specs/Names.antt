@@ -42,15 +42,13 @@ places-from i (u ∷ us) = i ∷ places-from (i + length (u .names)) us
 unfoldable pub first-places : List ℕ
 first-places = places-from 0 units
 
--- a part of the table, of at most two names
-pub record Few (x : NameRange) : Type 0 where
-  pub forward : x .first ≤ x .end
+-- a part of the table ends in it
+pub record InTable (x : NameRange) : Type 0 where
   pub within : x .end ≤ name-count
-  pub few : x .end ≤ x .first + 2
 
 -- the names of the unit of row u
 pub record NamesOf (u : ℕ) (x : NameRange) : Type 0 where
-  pub part : Few x
+  pub part : InTable x
   pub are : names-in x ≡ unit-at u .names
 
 -- the letters l by their count and key: these agree with those of a name exactly if the letters are the same

@@ -14,7 +14,7 @@ ghost use Rattle.label.specs.Ranges.{between};
 ghost use Rattle.label.specs.Symbols.{has-name};
 ghost use Rattle.label.specs.Writing.{name-among, name-in};
 ghost use Rattle.symbols.specs.Columns.{name-count, unit-count, name-codes, NameColumns};
-ghost use Rattle.rewriting.specs.Names.{entry, name-of, is-named, names-in, name-at, first-places, Few, NamesOf, OwnOf};
+ghost use Rattle.rewriting.specs.Names.{entry, name-of, is-named, names-in, name-at, first-places, InTable, NamesOf, OwnOf};
 
 // Where the names of a unit start and end in the table of names.
 pub struct NameRange {
@@ -91,54 +91,40 @@ fn is_known(codes: &[u32], n: u8, i: usize) -> bool
 
 // One more than the place of the name of these that has those letters and that notation `n` knows, or 0.
 fn own_place(keys: &[u64], codes: &[u32], n: u8, names: NameRange, own: Own) -> usize
-    requires { ⌜ NameColumns (now keys) (now codes) × Few names ⌝ }
+    requires { ⌜ NameColumns (now keys) (now codes) × InTable names ⌝ }
     ensures { λ r. ⌜ ((l : List ℕ) → OwnOf l own → name-at r ≡ pick (has-name n l (names-in names)) (some l) none) ⌝ }
     ensures { λ r. ⌜ r ≤ name-count ⌝ }
 {
-    let first = names.first;
     let end = names.end;
-    if end <= first {
-        return 0;
-    }
-    if is_own(keys, codes, n, first, own) {
-        return first + 1;
-    }
-    let second = first + 1;
-    if end <= second {
-        return 0;
-    }
-    if is_own(keys, codes, n, second, own) {
-        return second + 1;
+    let mut i = names.first;
+    while i < end {
+        if is_own(keys, codes, n, i, own) {
+            return i + 1;
+        }
+        i += 1;
     }
     0
 }
 
 // One more than the place of the first of these names that notation `n` knows, or 0.
 fn first_known(codes: &[u32], n: u8, names: NameRange) -> usize
-    requires { ⌜ (now codes ≡ name-codes) × Few names ⌝ }
+    requires { ⌜ (now codes ≡ name-codes) × InTable names ⌝ }
     ensures { λ r. ⌜ (name-at r ≡ name-among n (names-in names)) × (r ≤ name-count) ⌝ }
 {
-    let first = names.first;
     let end = names.end;
-    if end <= first {
-        return 0;
-    }
-    if is_known(codes, n, first) {
-        return first + 1;
-    }
-    let second = first + 1;
-    if end <= second {
-        return 0;
-    }
-    if is_known(codes, n, second) {
-        return second + 1;
+    let mut i = names.first;
+    while i < end {
+        if is_known(codes, n, i) {
+            return i + 1;
+        }
+        i += 1;
     }
     0
 }
 
 // One more than the place of the name of these that a unit takes in notation `n`: its own, or the first that is known there, or 0.
 pub fn name_in(keys: &[u64], codes: &[u32], n: u8, names: NameRange, own: Own) -> usize
-    requires { ⌜ NameColumns (now keys) (now codes) × Few names ⌝ }
+    requires { ⌜ NameColumns (now keys) (now codes) × InTable names ⌝ }
     ensures { λ r. ⌜ ((l : List ℕ) → OwnOf l own → name-at r ≡ name-in n l (names-in names)) ⌝ }
     ensures { λ r. ⌜ r ≤ name-count ⌝ }
 {

@@ -38,11 +38,15 @@ int unit_of(const char *symbol) {
     return unit;
 }
 
+const char *name_of(int unit, int i) {
+    return i == 0 ? unit_words[unit][SYMBOL] : OTHER + i - 1 < WORDS ? unit_words[unit][OTHER + i - 1] : NULL;
+}
+
 const char *name_in(uint32_t notation, int unit) {
-    const char *names[] = {unit_words[unit][SYMBOL], unit_words[unit][OTHER]};
-    for (unsigned i = 0; i < 2 && names[i]; i++)
-        if (is_sound(notation, names[i]) && thalinguze_term_unit(ask(notation, names[i]).record, 0) == unit)
-            return names[i];
+    const char *name;
+    for (int i = 0; (name = name_of(unit, i)); i++)
+        if (is_sound(notation, name) && thalinguze_term_unit(ask(notation, name).record, 0) == unit)
+            return name;
     return NULL;
 }
 

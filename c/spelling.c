@@ -24,10 +24,11 @@ static bool put_meant(uint32_t notation, const char *spelling, bool mega, struct
     spelling = usual.length ? usual.s : spelling;
     for (int p = 0; p <= PREFIXES; p++)
         for (int u = 1; u <= THALINGUZE_UNITS; u++) {
-            const char *prefix = prefix_words[p].symbol, *other = unit_words[u][OTHER];
+            const char *prefix = prefix_words[p].symbol;
             struct text t = {0};
-            bool meant = is_form(spelling, prefix, unit_words[u][SYMBOL], mega) || (other && is_form(spelling, prefix, other, mega))
-                      || is_form(spelling, prefix_words[p].word, unit_words[u][WORD], mega);
+            bool meant = is_form(spelling, prefix_words[p].word, unit_words[u][WORD], mega);
+            for (int i = 0; name_of(u, i); i++)
+                meant |= is_form(spelling, prefix, name_of(u, i), mega);
             const char *name = meant ? name_in(notation, u) : NULL;
             put(&t, "%s%s", prefix, name ? name : "");
             if (name && is_sound(notation, t.s)) {

@@ -2,6 +2,7 @@
 #include <strings.h>
 #include "command.h"
 
+/* the help, up to the notations and after them */
 static const char help[] =
     "usage: thalinguze read NOTATION LABEL           what a unit label means\n"
     "       thalinguze rewrite FROM LABEL TO         the label in another notation\n"
@@ -9,9 +10,10 @@ static const char help[] =
     "       thalinguze list NOTATION                 the units that a notation knows\n"
     "       thalinguze read --vectors, convert --vectors   both for programs\n"
     "       thalinguze --version, --help\n"
-    "A notation is fits, ogip, cds or vou (vounits is the same), in small or capital\n"
-    "letters. read also takes all, for every notation. A label is one argument: put\n"
-    "quotes round it. With --long, read and convert leave nothing out.\n"
+    "The notations and their numbers; letters may be small or capital:\n";
+static const char more_help[] =
+    "read also takes all, for every notation. A label is one argument: put quotes\n"
+    "round it. With --long, read and convert leave nothing out.\n"
     "  thalinguze read cds 'kg/m.s'\n"
     "  thalinguze rewrite cds '10+3pix/h' ogip\n"
     "  thalinguze convert cds km/h fits m/s\n"
@@ -23,15 +25,32 @@ static const char help[] =
     "label alone, and convert the factor; their refusals are on standard error.\n"
     "Exit status: 0 accepted (read all: in one notation at least), 1 refused, 2 a\n"
     "wrong call, a malformed line, or a failure to read or write.\n"
-    "--vectors reads lines from standard input: a notation number (1 FITS, 2 OGIP,\n"
-    "3 CDS, 4 VOUnits), a space and the label's bytes in hexadecimal, or - for the\n"
-    "empty label; for convert, a space and the same again. It prints each line with\n"
-    "its answer, in the formats of vectors/README.md, and names malformed lines on\n"
-    "standard error.\n";
+    "--vectors reads lines from standard input: the number of a notation, a space and\n"
+    "the label's bytes in hexadecimal, or - for the empty label; for convert, a space\n"
+    "and the same again. It prints each line with its answer, in the formats of\n"
+    "vectors/README.md, and names malformed lines on standard error.\n";
+
+static void print_help(void) {
+    fputs(help, stdout);
+    for (uint32_t n = 1; n <= NOTATIONS; n++) {
+        const struct notation_word *w = &notation_words[n];
+        bool same = strcasecmp(w->argument, w->name) == 0;
+        printf("  %u %s%s%s\n", n, w->argument, same ? "" : " or ", same ? "" : w->name);
+    }
+    fputs(more_help, stdout);
+}
 
 static int wrong_call(const char *what) {
     fprintf(stderr, "thalinguze: %s\nFor help: thalinguze --help\n", what);
     return WRONG_CALL;
+}
+
+static int no_notation(void) {
+    struct text what = {0};
+    put(&what, "there is no such notation; the notations are");
+    for (uint32_t n = 1; n <= NOTATIONS; n++)
+        put(&what, "%s %s", n == 1 ? "" : n < NOTATIONS ? "," : " and", notation_words[n].argument);
+    return wrong_call(what.s);
 }
 
 /* the number of a notation's name; 0 for any other text */
@@ -80,7 +99,7 @@ static int run_command(int count, char **words, bool in_full) {
         return read_label(1, NOTATIONS, words[2], in_full);
     uint32_t from = notation_of(words[1]), to = c == 1 || c == 2 ? notation_of(words[3]) : from;
     if (from == 0 || to == 0)
-        return wrong_call("there is no such notation; the notations are fits, ogip, cds and vou");
+        return no_notation();
     return c == 0 ? read_label(from, from, words[2], in_full) : c == 1 ? rewrite_label(from, words[2], to)
          : c == 2 ? convert_labels(from, words[2], to, words[4], in_full) : list_units(from);
 }
@@ -96,7 +115,7 @@ int main(int argc, char **argv) {
             words[count++] = argv[i];
     }
     if (wants_help)
-        fputs(help, stdout);
+        print_help();
     else if (count == 1 && strcmp(words[0], "--version") == 0)
         printf("thalinguze %s\n", THALINGUZE_VERSION_STRING);
     else

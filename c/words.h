@@ -46,7 +46,7 @@ static const struct prefix_word prefix_words[PREFIXES + 1] = {
     {"d", "deci", -1}, {"c", "centi", -2}, {"m", "milli", -3}, {"u", "micro", -6}, {"n", "nano", -9},
     {"p", "pico", -12}, {"f", "femto", -15}, {"a", "atto", -18}, {"z", "zepto", -21}, {"y", "yocto", -24},
 };
-/* A unit as labels write it, as a person says it, and its other name in labels, if it has one. */
+/* A unit as labels write it, as a person says it, and from OTHER on its other names in labels. */
 enum { SYMBOL, WORD, OTHER, WORDS };
 static const char *const unit_words[THALINGUZE_UNITS + 1][WORDS] = {
     {"?", "unknown"}, {"m", "metre"}, {"g", "gram"}, {"s", "second"}, {"A", "ampere"}, {"K", "kelvin"}, {"mol", "mole"}, {"cd", "candela"},

@@ -66,7 +66,7 @@ enum {
 /* What the calls return: 0, or the first of these that applies. Reading gives 1 to 7, converting 1 to 11, rewriting 1 to 7 and 12 to 14. */
 enum {
     THALINGUZE_ACCEPTED = 0,
-    THALINGUZE_NO_SUCH_NOTATION = 1,  /* the notation number is not 1 to 4 */
+    THALINGUZE_NO_SUCH_NOTATION = 1,  /* no notation has that number */
     THALINGUZE_TOO_LONG = 2,          /* the label is over THALINGUZE_MAX_LABEL_SIZE bytes */
     THALINGUZE_BYTE_OUT_OF_RANGE = 3, /* a byte lies outside hexadecimal 20 to 7E */
     THALINGUZE_NOT_IN_GRAMMAR = 4,    /* the label is not in the notation's grammar */

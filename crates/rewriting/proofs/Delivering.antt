@@ -1,7 +1,6 @@
 -- What is answered for a written text and a lent buffer, and for a label that is read.
 use Prim.Native.Nat.{ℕ, suc, _+_, _-_, _≤_, _<_}
 use native.Mathlib.Omega.{arith}
-use native.Mathlib.Decide.{decLt}
 use mathlib.Core.Path.{_≡_, refl, sym, ap, _∙_}
 use mathlib.Core.Logic.{_≢_}
 use mathlib.Core.Bool.{Bool, true, false}
@@ -13,8 +12,7 @@ use lib.ListN.{length, take, drop, getD}
 use lib.Seq.{length-take-le, take-all}
 use borrow.Author.Tests.{le-leb, lt-leb, eq-eqb, ne-eqb}
 use Rattle.label.specs.declared.Tens.{Tens}
-use Rattle.label.proofs.Basics.{false-true}
-use Rattle.label.specs.Notations.{member, notation}
+use Rattle.label.specs.Notations.{notation}
 use Rattle.label.specs.Ranges.{between}
 use Rattle.label.specs.Reading.{Reading, reading}
 use Rattle.label.specs.Writing.{Writable, Rewriting, refuse, unless, sized, rewriting, label-text, written-by, written, written-reading, writable}
@@ -120,15 +118,6 @@ module _ {x : Rewriting} (b : List ℕ) (end : ℕ) (h : end ≤ length b) (e : 
   changes c d f = rw (e, length-take-le end b h) f
 
 -- A LABEL THAT IS READ
-
--- the number of a notation fits a byte
-pub notation-small : (m : ℕ) → notation m ≡ true → m ≤ 4
-unfolding notation member
-notation-small m h = go (decLt 4 m)
-  where
-    go : Dec (4 < m) → m ≤ 4
-    go (yes g) = absurd (false-true (rw (ne-eqb m 1 (λ e. omega arith), ne-eqb m 2 (λ e. omega arith), ne-eqb m 3 (λ e. omega arith), ne-eqb m 4 (λ e. omega arith)) at h))
-    go (no g) = omega arith
 
 module _ {n : ℕ} {s : List ℕ} {t : Lent} {x : List ℕ} {ds cs : List ℤ} {r : Answer} (w : Reads n s t x ds cs r) (size m : ℕ) where
   pub source-refused : r .number ≢ 0 → rewriting-into size n s m ≡ refuse (r .number)

@@ -3,15 +3,15 @@ use Prim.Native.Nat.{ℕ, zero, suc, _+_, _-_, _/_, _%_, _≤_, _<_}
 use native.Mathlib.Omega.{arith}
 use native.Mathlib.Numerals.{add-one}
 use mathlib.Core.Path.{_≡_, refl, sym, ap, _∙_}
-use mathlib.Core.Bool.{Bool, true, false, _&&_, _||_}
+use mathlib.Core.Bool.{Bool, true, false, _&&_}
 use mathlib.Core.List.{List, [], _∷_, _++_, map, append-assoc}
 use mathlib.Core.Option.{Option, none, some}
 use lib.Dec.{T, leb, eqb, leb→le}
 use lib.IntN.{pos}
 use lib.ListN.{length, take, drop, getD, length-append, List·getD-eq-default}
 use lib.Seq.{drop-cons, drop-at, take-at}
-use borrow.Author.Tests.{eqb-true, ne-eqb, leb-true, leb-false}
-use Rattle.label.proofs.Basics.{none-some, both, T→true, same-is, and-left, and-right, all-below, at-below}
+use borrow.Author.Tests.{eqb-true, ne-eqb, leb-true}
+use Rattle.label.proofs.Basics.{none-some, both, T→true, same-is, and-left, all-below, at-below}
 use Rattle.label.specs.Bytes.{same}
 use Rattle.label.specs.Choice.{pick}
 use Rattle.label.specs.Notations.{member}
@@ -23,7 +23,7 @@ use Rattle.label.specs.Writing.{name-among, name-in, prefix-letters}
 use Rattle.symbols.specs.Keys.{most-letters, key-from, key-of, agrees}
 use Rattle.symbols.specs.Sets.{has-bit}
 use Rattle.symbols.specs.Names.{Entry, entries-of, entries-from, names}
-use Rattle.symbols.specs.Columns.{name-keys, name-codes, prefix-codes, NameColumns}
+use Rattle.symbols.specs.Columns.{name-count, unit-count, name-keys, name-codes, prefix-codes, NameColumns}
 use Rattle.symbols.specs.Views.{place}
 use Rattle.symbols.proofs.Computing.{columns-compute}
 use Rattle.symbols.proofs.RowLaws.{every, every-at}
@@ -33,7 +33,7 @@ use Rattle.symbols.proofs.PrefixLaws as prefix-laws
 use Rattle.rewriting.specs.declared.name.NameRange.{NameRange}
 use Rattle.rewriting.specs.declared.name.Own.{Own}
 use Rattle.rewriting.specs.Letters.{letters-of}
-use Rattle.rewriting.specs.Names.{most-names, entry, is-named, name-of, names-in, name-at, places-from, first-places, Few, NamesOf, OwnOf}
+use Rattle.rewriting.specs.Names.{entry, is-named, name-of, names-in, name-at, places-from, first-places, InTable, NamesOf, OwnOf}
 use Rattle.rewriting.specs.Units.{PrefixCode}
 
 entry-is : (i : ℕ) → laws.entry i ≡ entry i
@@ -104,99 +104,78 @@ is-known n i e = rw (e, laws.code-at i, laws.code-sound i .1 .0, ← entry-is i,
 
 -- A PART OF THE TABLE
 
-module _ {x : NameRange} (w : Few x) where
-  pub no-names : x .end ≤ x .first → names-in x ≡ []
-  unfolding names-in
-  no-names h = let e : x .end - x .first ≡ 0 = omega arith in rw e
+-- the names from place i on, up to the place end
+abbrev from : ℕ → ℕ → List Name
+from i end = names-in (record { first = i; end = end })
 
-  pub first-name : x .first < x .end → x .end ≤ x .first + 1 → names-in x ≡ name-of (entry (x .first)) ∷ []
-  unfolding names-in entry laws.nobody
-  first-name h g =
-      let e : x .end - x .first ≡ 1 = omega arith in
-      rw (e, drop-cons names (x .first) laws.nobody (omega (arith, laws.names-count, w .within)))
+no-names : (i end : ℕ) → end ≤ i → from i end ≡ []
+unfolding names-in
+no-names i end h = let e : end - i ≡ 0 = omega arith in rw e
 
-  pub two-names : x .first + 1 < x .end → names-in x ≡ name-of (entry (x .first)) ∷ name-of (entry (x .first + 1)) ∷ []
-  unfolding names-in entry laws.nobody
-  two-names h =
-      let e : x .end - x .first ≡ 2 = omega (arith, w .few) in
-      rw (
-        e,
-        drop-cons names (x .first) laws.nobody (omega (arith, laws.names-count, w .within)),
-        drop-cons names (suc (x .first)) laws.nobody (omega (arith, laws.names-count, w .within)),
-        add-one (x .first),
-      )
-
-  pub some-names : x .first < x .end → (ys : List Name) × (names-in x ≡ name-of (entry (x .first)) ∷ ys)
-  some-names h = go (leb (x .end) (x .first + 1)) refl
-    where
-      go : (b : Bool) → leb (x .end) (x .first + 1) ≡ b → (ys : List Name) × (names-in x ≡ name-of (entry (x .first)) ∷ ys)
-      go true e = ([], first-name h (leb-true (x .end) (x .first + 1) e))
-      go false e = (name-of (entry (x .first + 1)) ∷ [], two-names (leb-false (x .end) (x .first + 1) e))
+next-name : (i end : ℕ) → i < end → end ≤ name-count → from i end ≡ name-of (entry i) ∷ from (i + 1) end
+unfolding names-in entry laws.nobody
+next-name i end h g =
+    let e : end - i ≡ suc (end - suc i) = omega arith in
+    rw (e, drop-cons names i laws.nobody (omega (arith, laws.names-count)), add-one i)
 
 -- WHICH NAME IS TAKEN
 
 letters-own : (n i : ℕ) (l : List ℕ) → is-named n l (name-of (entry i)) ≡ true → some (entry i .letters) ≡ some l
 letters-own n i l e = ap (λ (s : List ℕ). some s) (sym (same-is l (entry i .letters) (and-left (same l (entry i .letters)) _ e)))
 
-module _ (n : ℕ) (l : List ℕ) {x : NameRange} (w : Few x) where
-  pub own-no : x .end ≤ x .first → name-at 0 ≡ pick (has-name n l (names-in x)) (some l) none
-  unfolding name-at has-name
-  own-no h = rw (no-names w h)
+-- what a search answers for the names of x it also answers for those from place i on
+pub record Looking (answer : List Name → Option (List ℕ)) (x : NameRange) (i : ℕ) : Type 0 where
+  pub rest : answer (from i (x .end)) ≡ answer (names-in x)
 
-  pub own-first : x .first < x .end → is-named n l (name-of (entry (x .first))) ≡ true → name-at (x .first + 1) ≡ pick (has-name n l (names-in x)) (some l) none
-  unfolding name-at has-name
-  own-first h f = rw (some-names w h .1, f, add-one (x .first)) (letters-own n (x .first) l f)
+module _ (answer : List Name → Option (List ℕ)) (x : NameRange) where
+  pub look-start : Looking answer x (x .first)
+  look-start = record { rest = refl }
 
-  pub own-not-one : x .first < x .end → x .end ≤ x .first + 1 → is-named n l (name-of (entry (x .first))) ≡ false
-      → name-at 0 ≡ pick (has-name n l (names-in x)) (some l) none
-  unfolding name-at has-name
-  own-not-one h g f = rw (first-name w h g, f)
+  pub look-end : (i : ℕ) → answer [] ≡ none → x .end ≤ i → Looking answer x i → name-at 0 ≡ answer (names-in x)
+  unfolding name-at
+  look-end i e h w = sym e ∙ sym (ap answer (no-names i (x .end) h)) ∙ w .rest
 
-  module _ (h : x .first + 1 < x .end) (f : is-named n l (name-of (entry (x .first))) ≡ false) where
-    pub own-second : is-named n l (name-of (entry (x .first + 1))) ≡ true → name-at (x .first + 1 + 1) ≡ pick (has-name n l (names-in x)) (some l) none
-    unfolding name-at has-name
-    own-second g = rw (two-names w h, f, g, add-one (x .first + 1)) (letters-own n (x .first + 1) l g)
+  module _ (i : ℕ) (h : i < x .end) (g : InTable x) (w : Looking answer x i) where
+    ahead : answer (name-of (entry i) ∷ from (i + 1) (x .end)) ≡ answer (names-in x)
+    ahead = sym (ap answer (next-name i (x .end) h (g .within))) ∙ w .rest
 
-    pub own-not-two : is-named n l (name-of (entry (x .first + 1))) ≡ false → name-at 0 ≡ pick (has-name n l (names-in x)) (some l) none
-    unfolding name-at has-name
-    own-not-two g = rw (two-names w h, f, g)
+    pub look-hit : answer (name-of (entry i) ∷ from (i + 1) (x .end)) ≡ some (entry i .letters) → name-at (i + 1) ≡ answer (names-in x)
+    unfolding name-at
+    look-hit e = rw (add-one i) (sym e ∙ ahead)
 
-among-this : (n : ℕ) (y : Name) (ys : List Name) → member n (y .known-in) ≡ true → name-among n (y ∷ ys) ≡ some (y .letters)
+    pub look-miss : answer (name-of (entry i) ∷ from (i + 1) (x .end)) ≡ answer (from (i + 1) (x .end)) → Looking answer x (i + 1)
+    look-miss e = record { rest = sym e ∙ ahead }
+
+-- its own name
+abbrev pub own-answer : ℕ → List ℕ → List Name → Option (List ℕ)
+own-answer n l xs = pick (has-name n l xs) (some l) none
+
+module _ (n : ℕ) (l : List ℕ) (i : ℕ) (ys : List Name) where
+  pub own-this : is-named n l (name-of (entry i)) ≡ true → own-answer n l (name-of (entry i) ∷ ys) ≡ some (entry i .letters)
+  unfolding has-name
+  own-this e = rw e (sym (letters-own n i l e))
+
+  pub own-later : is-named n l (name-of (entry i)) ≡ false → own-answer n l (name-of (entry i) ∷ ys) ≡ own-answer n l ys
+  unfolding has-name
+  own-later e = rw e
+
+pub own-none : (n : ℕ) (l : List ℕ) → own-answer n l [] ≡ none
+unfolding has-name
+own-none n l = refl
+
+-- the first name that is known
+
+pub among-this : (n : ℕ) (y : Name) (ys : List Name) → member n (y .known-in) ≡ true → name-among n (y ∷ ys) ≡ some (y .letters)
 unfolding name-among
 among-this n y ys e = rw (e, name-among)
 
-among-later : (n : ℕ) (y : Name) (ys : List Name) → member n (y .known-in) ≡ false → name-among n (y ∷ ys) ≡ name-among n ys
+pub among-later : (n : ℕ) (y : Name) (ys : List Name) → member n (y .known-in) ≡ false → name-among n (y ∷ ys) ≡ name-among n ys
 unfolding name-among
 among-later n y ys e = rw (e, name-among)
 
-among-none : (n : ℕ) → name-among n [] ≡ none
+pub among-none : (n : ℕ) → name-among n [] ≡ none
 unfolding name-among
 among-none n = refl
-
-module _ (n : ℕ) {x : NameRange} (w : Few x) where
-  pub known-no : x .end ≤ x .first → (name-at 0 ≡ name-among n (names-in x)) × (0 ≤ most-names)
-  unfolding name-at name-among
-  known-no h = (rw (no-names w h), omega arith)
-
-  pub known-first : x .first < x .end → member n (entry (x .first) .known-in) ≡ true → (name-at (x .first + 1) ≡ name-among n (names-in x)) × (x .first + 1 ≤ most-names)
-  unfolding name-at
-  known-first h f = (rw (some-names w h .1, add-one (x .first)) (sym (among-this n (name-of (entry (x .first))) _ f)), omega (arith, w .within))
-
-  pub known-not-one : x .first < x .end → x .end ≤ x .first + 1 → member n (entry (x .first) .known-in) ≡ false
-      → (name-at 0 ≡ name-among n (names-in x)) × (0 ≤ most-names)
-  unfolding name-at
-  known-not-one h g f = (rw (first-name w h g) (sym (among-later n (name-of (entry (x .first))) [] f ∙ among-none n)), omega arith)
-
-  module _ (h : x .first + 1 < x .end) (f : member n (entry (x .first) .known-in) ≡ false) where
-    pub known-second : member n (entry (x .first + 1) .known-in) ≡ true → (name-at (x .first + 1 + 1) ≡ name-among n (names-in x)) × (x .first + 1 + 1 ≤ most-names)
-    unfolding name-at
-    known-second g =
-        (rw (two-names w h, add-one (x .first + 1)) (sym (among-later n (name-of (entry (x .first))) _ f ∙ among-this n (name-of (entry (x .first + 1))) [] g)), omega (arith, w .within))
-
-    pub known-not-two : member n (entry (x .first + 1) .known-in) ≡ false → (name-at 0 ≡ name-among n (names-in x)) × (0 ≤ most-names)
-    unfolding name-at
-    known-not-two g =
-        (rw (two-names w h) (sym (among-later n (name-of (entry (x .first))) _ f ∙ among-later n (name-of (entry (x .first + 1))) [] g ∙ among-none n)), omega arith)
 
 module _ (n : ℕ) (l : List ℕ) (xs : List Name) where
   -- its own name, where there is a place
@@ -273,28 +252,21 @@ first-in-row a n c t u h g =
 place-at : ℕ → ℕ
 place-at u = getD first-places u 0
 
-short-part : ℕ → Bool
-short-part u = leb (place-at u) (place-at (suc u)) && (leb (place-at (suc u)) 67 && leb (place-at (suc u)) (place-at u + 2))
+ends-in-table : ℕ → Bool
+ends-in-table u = leb (place-at (suc u)) name-count
 
-short-parts : all-below short-part 61 ≡ true
-unfolding all-below short-part place-at places-from first-places columns-compute
-short-parts = refl
+parts-in-table : all-below ends-in-table unit-count ≡ true
+unfolding all-below ends-in-table place-at places-from first-places columns-compute
+parts-in-table = refl
 
-units-count : length units ≡ 61
+units-count : length units ≡ unit-count
 unfolding columns-compute
 units-count = refl
 
-module _ (u : ℕ) (h : u ≤ 60) where
-  part-few : Few (record { first = place-at u; end = place-at (suc u) })
-  unfolding short-part
-  part-few =
-      let a = at-below short-part 61 short-parts u (omega arith) in
-      let b = and-right (leb (place-at u) (place-at (suc u))) _ a in
-      record {
-        forward = leb-true _ _ (and-left (leb (place-at u) (place-at (suc u))) _ a);
-        within = leb-true _ _ (and-left (leb (place-at (suc u)) 67) _ b);
-        few = leb-true _ _ (and-right (leb (place-at (suc u)) 67) _ b);
-      }
+module _ (u : ℕ) (h : u < unit-count) where
+  part-in-table : InTable (record { first = place-at u; end = place-at (suc u) })
+  unfolding ends-in-table
+  part-in-table = record { within = leb-true _ _ (at-below ends-in-table unit-count parts-in-table u (omega arith)) }
 
   part-names : names-in (record { first = place-at u; end = place-at (suc u) }) ≡ unit-at u .names
   unfolding names-in place-at first-places names
@@ -304,12 +276,12 @@ module _ (u : ℕ) (h : u ≤ 60) where
   unfolding place-at
   unit-names first end e f =
       let g : end ≡ getD first-places (suc u) 0 = f ∙ ap (λ (i : ℕ). getD first-places i 0) (add-one u) in
-      rw (e, g) (record { part = part-few; are = part-names })
+      rw (e, g) (record { part = part-in-table; are = part-names })
 
-pub no-unit-names : (u : ℕ) → 60 < u → NamesOf u (record { first = 0; end = 0 })
+pub no-unit-names : (u : ℕ) → unit-count ≤ u → NamesOf u (record { first = 0; end = 0 })
 unfolding names-in
 no-unit-names u h = record {
-  part = record { forward = omega arith; within = omega arith; few = omega arith };
+  part = record { within = omega arith };
   are = let e : unit-at u ≡ no-unit = List·getD-eq-default units no-unit (omega (arith, units-count)) in rw e;
 }
 

@@ -10,12 +10,9 @@ use Rattle.label.specs.Notations.{member}
 use Rattle.label.specs.Units.{Name, KnownUnit, units, unit-at}
 use Rattle.symbols.specs.Keys.{key-of, agrees}
 use Rattle.symbols.specs.Names.{Entry, names}
+use Rattle.symbols.specs.Columns.{name-count}
 use Rattle.rewriting.specs.declared.name.NameRange.{NameRange}
 use Rattle.rewriting.specs.declared.name.Own.{Own}
-
--- how many names the table has
-abbrev pub most-names : ℕ
-most-names = 67
 
 -- the entry at i of the table of names, and past its end
 unfoldable pub entry : ℕ → Entry
@@ -45,15 +42,13 @@ places-from i (u ∷ us) = i ∷ places-from (i + length (u .names)) us
 unfoldable pub first-places : List ℕ
 first-places = places-from 0 units
 
--- a part of the table, of at most two names
-pub record Few (x : NameRange) : Type 0 where
-  pub forward : x .first ≤ x .end
-  pub within : x .end ≤ most-names
-  pub few : x .end ≤ x .first + 2
+-- a part of the table ends in it
+pub record InTable (x : NameRange) : Type 0 where
+  pub within : x .end ≤ name-count
 
 -- the names of the unit of row u
 pub record NamesOf (u : ℕ) (x : NameRange) : Type 0 where
-  pub part : Few x
+  pub part : InTable x
   pub are : names-in x ≡ unit-at u .names
 
 -- the letters l by their count and key: these agree with those of a name exactly if the letters are the same

@@ -2,6 +2,7 @@
 use symbols::keys::has_notation;
 use symbols::keys::key;
 use symbols::lookup::is_name;
+use symbols::tables::UNITS;
 ghost use Prim.Native.Nat.{ℕ, _≤_, _<_};
 ghost use mathlib.Core.Path.{_≡_};
 ghost use mathlib.Core.List.{List};
@@ -12,8 +13,8 @@ ghost use Rattle.label.specs.Notations.{member};
 ghost use Rattle.label.specs.Ranges.{between};
 ghost use Rattle.label.specs.Symbols.{has-name};
 ghost use Rattle.label.specs.Writing.{name-among, name-in};
-ghost use Rattle.symbols.specs.Columns.{name-codes, NameColumns};
-ghost use Rattle.rewriting.specs.Names.{most-names, entry, name-of, is-named, names-in, name-at, first-places, Few, NamesOf, OwnOf};
+ghost use Rattle.symbols.specs.Columns.{name-count, unit-count, name-codes, NameColumns};
+ghost use Rattle.rewriting.specs.Names.{entry, name-of, is-named, names-in, name-at, first-places, InTable, NamesOf, OwnOf};
 
 // Where the names of a unit start and end in the table of names.
 pub struct NameRange {
@@ -27,9 +28,9 @@ pub struct Own {
     pub number: u64,
 }
 
-// The place of a unit's first name in the table of names; 61 is past the last unit. Each unit before it with two names counts one more.
+// The place of a unit's first name in the table of names, also for the row past the last unit. Each unit before it with two names counts one more.
 fn first_name(unit: u8) -> u8
-    requires { ⌜ unit < 62 ⌝ }
+    requires { ⌜ unit ≤ unit-count ⌝ }
     ensures { λ r. ⌜ r ≡ getD first-places unit 0 ⌝ }
 {
     match unit {
@@ -47,7 +48,7 @@ fn first_name(unit: u8) -> u8
 pub fn names_of(unit: u8) -> NameRange
     ensures { λ r. ⌜ NamesOf unit r ⌝ }
 {
-    if 60 < unit {
+    if UNITS <= unit as usize {
         return NameRange { first: 0, end: 0 };
     }
     let first = first_name(unit) as usize;
@@ -73,7 +74,7 @@ pub fn letters_in(s: &[u8], start: usize, end: usize) -> Own
 
 // Whether name `i` has those letters and notation `n` knows it.
 fn is_own(keys: &[u64], codes: &[u32], n: u8, i: usize, own: Own) -> bool
-    requires { ⌜ NameColumns (now keys) (now codes) × (i < most-names) ⌝ }
+    requires { ⌜ NameColumns (now keys) (now codes) × (i < name-count) ⌝ }
     ensures { λ r. ⌜ ((l : List ℕ) → OwnOf l own → r ≡ is-named n l (name-of (entry i))) ⌝ }
 {
     is_name(n, own.size, own.number, keys[i], codes[i])
@@ -81,7 +82,7 @@ fn is_own(keys: &[u64], codes: &[u32], n: u8, i: usize, own: Own) -> bool
 
 // Whether notation `n` knows name `i`.
 fn is_known(codes: &[u32], n: u8, i: usize) -> bool
-    requires { ⌜ (now codes ≡ name-codes) × (i < most-names) ⌝ }
+    requires { ⌜ (now codes ≡ name-codes) × (i < name-count) ⌝ }
     ensures { λ r. ⌜ r ≡ member n (entry i .known-in) ⌝ }
 {
     let code = codes[i];
@@ -90,56 +91,42 @@ fn is_known(codes: &[u32], n: u8, i: usize) -> bool
 
 // One more than the place of the name of these that has those letters and that notation `n` knows, or 0.
 fn own_place(keys: &[u64], codes: &[u32], n: u8, names: NameRange, own: Own) -> usize
-    requires { ⌜ NameColumns (now keys) (now codes) × Few names ⌝ }
+    requires { ⌜ NameColumns (now keys) (now codes) × InTable names ⌝ }
     ensures { λ r. ⌜ ((l : List ℕ) → OwnOf l own → name-at r ≡ pick (has-name n l (names-in names)) (some l) none) ⌝ }
-    ensures { λ r. ⌜ r ≤ most-names ⌝ }
+    ensures { λ r. ⌜ r ≤ name-count ⌝ }
 {
-    let first = names.first;
     let end = names.end;
-    if end <= first {
-        return 0;
-    }
-    if is_own(keys, codes, n, first, own) {
-        return first + 1;
-    }
-    let second = first + 1;
-    if end <= second {
-        return 0;
-    }
-    if is_own(keys, codes, n, second, own) {
-        return second + 1;
+    let mut i = names.first;
+    while i < end {
+        if is_own(keys, codes, n, i, own) {
+            return i + 1;
+        }
+        i += 1;
     }
     0
 }
 
 // One more than the place of the first of these names that notation `n` knows, or 0.
 fn first_known(codes: &[u32], n: u8, names: NameRange) -> usize
-    requires { ⌜ (now codes ≡ name-codes) × Few names ⌝ }
-    ensures { λ r. ⌜ (name-at r ≡ name-among n (names-in names)) × (r ≤ most-names) ⌝ }
+    requires { ⌜ (now codes ≡ name-codes) × InTable names ⌝ }
+    ensures { λ r. ⌜ (name-at r ≡ name-among n (names-in names)) × (r ≤ name-count) ⌝ }
 {
-    let first = names.first;
     let end = names.end;
-    if end <= first {
-        return 0;
-    }
-    if is_known(codes, n, first) {
-        return first + 1;
-    }
-    let second = first + 1;
-    if end <= second {
-        return 0;
-    }
-    if is_known(codes, n, second) {
-        return second + 1;
+    let mut i = names.first;
+    while i < end {
+        if is_known(codes, n, i) {
+            return i + 1;
+        }
+        i += 1;
     }
     0
 }
 
 // One more than the place of the name of these that a unit takes in notation `n`: its own, or the first that is known there, or 0.
 pub fn name_in(keys: &[u64], codes: &[u32], n: u8, names: NameRange, own: Own) -> usize
-    requires { ⌜ NameColumns (now keys) (now codes) × Few names ⌝ }
+    requires { ⌜ NameColumns (now keys) (now codes) × InTable names ⌝ }
     ensures { λ r. ⌜ ((l : List ℕ) → OwnOf l own → name-at r ≡ name-in n l (names-in names)) ⌝ }
-    ensures { λ r. ⌜ r ≤ most-names ⌝ }
+    ensures { λ r. ⌜ r ≤ name-count ⌝ }
 {
     let place = own_place(keys, codes, n, names, own);
     if 0 < place {

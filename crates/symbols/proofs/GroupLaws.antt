@@ -5,12 +5,12 @@ use mathlib.Core.Path.{_≡_, refl, sym, ap, _∙_}
 use mathlib.Core.Bool.{Bool, true, false, _||_}
 use mathlib.Core.List.{List, [], _∷_}
 use types.Run.{OneOf}
-use lib.Dec.{T, eqb}
+use lib.Dec.{T, ltb, eqb}
 use lib.ListN.{length, getD}
 use borrow.Author.Tests.{eqb-true, eqb-false, ne-eqb}
 use Rattle.label.proofs.Basics.{both}
 use Rattle.label.specs.Choice.{pick}
-use Rattle.symbols.specs.Columns.{name-keys}
+use Rattle.symbols.specs.Columns.{name-count, name-keys}
 use Rattle.symbols.specs.Groups.{groups, first-in-group}
 use Rattle.symbols.proofs.Computing.{columns-compute}
 use Rattle.symbols.proofs.RowLaws.{every}
@@ -19,15 +19,24 @@ use Rattle.symbols.proofs.RowLaws.{every}
 abbrev pub start : ℕ → ℕ
 start g = first-in-group g 0 name-keys
 
-unfoldable pub start-computes : Unit {0}
-unfolding first-in-group columns-compute
-start-computes = tt
-
 -- GROUPS WITHOUT A NAME
 
--- the groups that have a name
+-- a number put into a rising list, once
+unfoldable pub put-in : ℕ → List ℕ → List ℕ
+put-in g [] = g ∷ []
+put-in g (x ∷ xs) = elim (ltb g x) [ true ↦ g ∷ x ∷ xs | false ↦ elim (eqb g x) [ true ↦ x ∷ xs | false ↦ x ∷ put-in g xs ] ]
+
+unfoldable pub groups-of : List ℕ → List ℕ
+groups-of [] = []
+groups-of (k ∷ ks) = put-in (k % groups) (groups-of ks)
+
+-- the groups that have a name, rising: the arms of `first_in_group`
 abbrev with-names : List ℕ
-with-names = 4 ∷ 7 ∷ 12 ∷ 13 ∷ 24 ∷ 26 ∷ 29 ∷ 32 ∷ 33 ∷ 37 ∷ 40 ∷ 46 ∷ 48 ∷ 51 ∷ 54 ∷ 55 ∷ 58 ∷ 59 ∷ 63 ∷ 65 ∷ 67 ∷ 68 ∷ 69 ∷ 70 ∷ 71 ∷ 72 ∷ 73 ∷ 74 ∷ 75 ∷ 78 ∷ 82 ∷ 83 ∷ 84 ∷ 86 ∷ 87 ∷ 92 ∷ 97 ∷ 98 ∷ 100 ∷ 102 ∷ 103 ∷ 104 ∷ 106 ∷ 109 ∷ 111 ∷ 112 ∷ 114 ∷ 115 ∷ 116 ∷ 117 ∷ 120 ∷ 121 ∷ 127 ∷ 130 ∷ 132 ∷ 133 ∷ 142 ∷ 144 ∷ []
+with-names = groups-of name-keys
+
+unfoldable pub start-computes : Unit {0}
+unfolding first-in-group put-in groups-of columns-compute
+start-computes = tt
 
 -- none of the numbers, the last one outermost: what a match tells in `_`
 abbrev NoneOf : Type 0 → List ℕ → ℕ → Type 0
@@ -55,7 +64,7 @@ named : ℕ → Bool
 named k = one-of (k % groups) with-names
 
 keys-named : T (every named name-keys)
-unfolding every named one-of columns-compute
+unfolding every named one-of start-computes
 keys-named = tt
 
 none-in-group : (g i : ℕ) (ks : List ℕ) → T (every named ks) → (T (one-of g with-names) → ⊥) → first-in-group g i ks ≡ i + length ks
@@ -69,11 +78,11 @@ none-in-group g i (k ∷ ks) t d =
     go true e ih = absurd (d (rw (sym (eqb-true (k % groups) g e)) (both (named k) (every named ks) t .0)))
     go false e ih = omega (arith, ih)
 
-keys-count : 0 + length name-keys ≡ 67
+keys-count : 0 + length name-keys ≡ name-count
 unfolding columns-compute
 keys-count = refl
 
-pub no-start : (g : ℕ) → NoneOf Unit with-names g → start g ≡ 67
+pub no-start : (g : ℕ) → NoneOf Unit with-names g → start g ≡ name-count
 no-start g h = none-in-group g 0 name-keys keys-named (not-one-of Unit with-names g h) ∙ keys-count
 
 -- NAMES BEFORE THE FIRST OF THE GROUP
@@ -102,7 +111,7 @@ other-group g i (k ∷ ks) (suc j) h = go (eqb (k % groups) g) h (other-group g 
     go true u ih = absurd (omega (arith, u))
     go false u ih = ih (omega (arith, u))
 
-pub start-upto : (g : ℕ) → start g ≤ 67
+pub start-upto : (g : ℕ) → start g ≤ name-count
 start-upto g = omega (arith, first-in-group-upto g 0 name-keys, keys-count)
 
 -- a name before the first one of a key's group has another key

@@ -19,7 +19,7 @@ use Rattle.symbols.specs.Keys.{most-letters, key-from, key-of, agrees}
 use Rattle.symbols.specs.Sets.{bits, has-bit}
 use Rattle.symbols.specs.Names.{Entry, entries-of, entries-from, names}
 use Rattle.symbols.specs.Groups.{groups}
-use Rattle.symbols.specs.Columns.{name-keys, name-code, name-codes, NameColumns}
+use Rattle.symbols.specs.Columns.{name-count, name-keys, name-code, name-codes, NameColumns}
 use Rattle.symbols.specs.Views.{place}
 use Rattle.symbols.proofs.Computing.{columns-compute}
 use Rattle.symbols.proofs.GroupLaws.{start, start-upto, before-start}
@@ -73,15 +73,19 @@ coded x =
     eqb (name-code x / 65536) (length (x .letters))
     && (eqb (name-code x / 256 % 256) (bits (x .known-in)) && eqb (name-code x % 256) (x .unit))
 
--- a name that a key can hold, a set that its bits tell, and a row of the table; and a code that has the three in its bytes
+-- one more than this row is a byte
+abbrev pub most-row : ℕ
+most-row = 254
+
+-- a name that a key can hold, a set that its bits tell, and a row that leaves room in a byte; and a code that has the three in its bytes
 sound : Entry → Bool
-sound x = keyable (x .letters) && ((told-by-bits (x .known-in) && leb (x .unit) 60) && coded x)
+sound x = keyable (x .letters) && ((told-by-bits (x .known-in) && leb (x .unit) most-row) && coded x)
 
 names-sound : T (every sound names)
 unfolding every sound coded keyable told-by-bits all-below alike columns-compute
 names-sound = tt
 
-pub names-count : length names ≡ 67
+pub names-count : length names ≡ name-count
 unfolding columns-compute
 names-count = refl
 
@@ -105,21 +109,21 @@ module _ (i : ℕ) where
   unfolding sound
   letters-sound = both (keyable (entry i .letters)) _ (entry-sound i) .0
 
-  rest-sound : T ((told-by-bits (entry i .known-in) && leb (entry i .unit) 60) && coded (entry i))
+  rest-sound : T ((told-by-bits (entry i .known-in) && leb (entry i .unit) most-row) && coded (entry i))
   unfolding sound
   rest-sound = both (keyable (entry i .letters)) _ (entry-sound i) .1
 
-  set-sound : T (told-by-bits (entry i .known-in) && leb (entry i .unit) 60)
-  set-sound = both (told-by-bits (entry i .known-in) && leb (entry i .unit) 60) _ rest-sound .0
+  set-sound : T (told-by-bits (entry i .known-in) && leb (entry i .unit) most-row)
+  set-sound = both (told-by-bits (entry i .known-in) && leb (entry i .unit) most-row) _ rest-sound .0
 
-  unit-sound : entry i .unit ≤ 60
-  unit-sound = leb→le (entry i .unit) 60 (both (told-by-bits (entry i .known-in)) _ set-sound .1)
+  unit-sound : entry i .unit ≤ most-row
+  unit-sound = leb→le (entry i .unit) most-row (both (told-by-bits (entry i .known-in)) _ set-sound .1)
 
   pub code-sound : (name-code (entry i) / 65536 ≡ length (entry i .letters))
       × ((name-code (entry i) / 256 % 256 ≡ bits (entry i .known-in)) × (name-code (entry i) % 256 ≡ entry i .unit))
   unfolding coded
   code-sound =
-      let w = both (eqb (name-code (entry i) / 65536) (length (entry i .letters))) _ (both (told-by-bits (entry i .known-in) && leb (entry i .unit) 60) _ rest-sound .1) in
+      let w = both (eqb (name-code (entry i) / 65536) (length (entry i .letters))) _ (both (told-by-bits (entry i .known-in) && leb (entry i .unit) most-row) _ rest-sound .1) in
       let v = both (eqb (name-code (entry i) / 256 % 256) (bits (entry i .known-in))) _ (w .1) in
       (eqb-true _ _ (T→true _ (w .0)), (eqb-true _ _ (T→true _ (v .0)), eqb-true _ _ (T→true _ (v .1))))
 
@@ -137,15 +141,15 @@ module _ (i : ℕ) where
   pub member-at : (n : ℕ) → has-bit n (bits (entry i .known-in)) ≡ member n (entry i .known-in)
   member-at n = bit-member n (entry i .known-in) (both (told-by-bits (entry i .known-in)) _ set-sound .0)
 
-  pub unit-room : {cs : List ℕ} → cs ≡ name-codes → getD cs i 0 % 256 ≤ 60
+  pub unit-room : {cs : List ℕ} → cs ≡ name-codes → getD cs i 0 % 256 ≤ most-row
   unit-room e = rw (e, code-at, code-sound .1 .1) unit-sound
 
 -- each column has an element for each name
-pub key-column-count : {ks : List ℕ} → ks ≡ name-keys → length ks ≡ 67
+pub key-column-count : {ks : List ℕ} → ks ≡ name-keys → length ks ≡ name-count
 unfolding columns-compute
 key-column-count e = rw e
 
-pub code-column-count : {cs : List ℕ} → cs ≡ name-codes → length cs ≡ 67
+pub code-column-count : {cs : List ℕ} → cs ≡ name-codes → length cs ≡ name-count
 unfolding columns-compute
 code-column-count e = rw e
 
@@ -169,11 +173,11 @@ module _ {ks cs : List ℕ} {n : ℕ} {l : List ℕ} {size number : ℕ} where
   pub search-none : NameColumns ks cs → Spelled l size number → Searching ks cs n l size number 0
   search-none w v = record { columns = w; spelled = v; sought = sought-none (first-named n l) }
 
-  pub search-all : {i : ℕ} → 67 ≤ i → Searching ks cs n l size number i → place 0 ≡ unit-named n l
+  pub search-all : {i : ℕ} → name-count ≤ i → Searching ks cs n l size number i → place 0 ≡ unit-named n l
   unfolding place
   search-all h w = sought-all (omega (arith, names-count)) (w .sought)
 
-  module _ {i : ℕ} (h : i < 67) (w : Searching ks cs n l size number i) {r : Bool}
+  module _ {i : ℕ} (h : i < name-count) (w : Searching ks cs n l size number i) {r : Bool}
       (e : r ≡ (agrees size number (getD cs i 0 / 65536) (getD ks i 0) && has-bit n (getD cs i 0 / 256 % 256))) where
     told : is-entry n l (entry i) ≡ r
     unfolding is-entry

@@ -13,7 +13,7 @@ use Rattle.label.proofs.Basics.{T→true, both}
 use Rattle.label.specs.Bytes.{same}
 use Rattle.label.specs.Prefixes.{Prefix, prefixes, placed, prefix-named}
 use Rattle.symbols.specs.Keys.{most-letters, key-from, key-of, agrees}
-use Rattle.symbols.specs.Columns.{prefix-code, prefix-codes}
+use Rattle.symbols.specs.Columns.{prefix-count, prefix-code, prefix-codes}
 use Rattle.symbols.specs.Views.{place}
 use Rattle.symbols.proofs.Computing.{columns-compute}
 use Rattle.symbols.proofs.KeyLaws.{keyable, long-other, Spelled, agrees-spelled}
@@ -31,7 +31,7 @@ prefixes-keyed : T (every has-key prefixes)
 unfolding every has-key keyable columns-compute
 prefixes-keyed = tt
 
-prefixes-count : length prefixes ≡ 20
+prefixes-count : length prefixes ≡ prefix-count
 unfolding columns-compute
 prefixes-count = refl
 
@@ -70,7 +70,7 @@ module _ (i : ℕ) where
   code-at = List·getD-map prefix-code prefixes i nothing
 
 -- the column has an element for each prefix
-pub codes-count : {cs : List ℕ} → cs ≡ prefix-codes → length cs ≡ 20
+pub codes-count : {cs : List ℕ} → cs ≡ prefix-codes → length cs ≡ prefix-count
 unfolding columns-compute
 codes-count e = rw e
 
@@ -105,11 +105,11 @@ module _ {cs l : List ℕ} {size number : ℕ} where
   pub search-none : cs ≡ prefix-codes → Spelled l size number → Searching cs l size number 0
   search-none w v = record { column = w; spelled = v; sought = sought-none (first-named l) }
 
-  pub search-all : {i : ℕ} → 20 ≤ i → Searching cs l size number i → place 0 ≡ prefix-named l
+  pub search-all : {i : ℕ} → prefix-count ≤ i → Searching cs l size number i → place 0 ≡ prefix-named l
   unfolding place
   search-all h w = sought-all (omega (arith, prefixes-count)) (w .sought)
 
-  module _ {i : ℕ} (h : i < 20) (w : Searching cs l size number i) {r : Bool}
+  module _ {i : ℕ} (h : i < prefix-count) (w : Searching cs l size number i) {r : Bool}
       (e : r ≡ agrees size number (getD cs i 0 / 65536) (getD cs i 0 % 65536)) where
     told : is-prefix l (entry i) ≡ r
     unfolding is-prefix

@@ -12,6 +12,18 @@ use Rattle.symbols.specs.Sets.{bits}
 use Rattle.symbols.specs.Names.{Entry, names}
 use Rattle.symbols.specs.Slots.{slot, prime-slot, four-each}
 
+-- HOW MANY THERE ARE
+
+-- names, prefixes and units. That the tables have as many is proved (`names-count`, `prefixes-count`, `units-count`).
+abbrev pub name-count : ℕ
+name-count = 67
+
+abbrev pub prefix-count : ℕ
+prefix-count = 20
+
+abbrev pub unit-count : ℕ
+unit-count = 61
+
 -- NAMES
 
 unfoldable pub name-keys : List ℕ

@@ -7,6 +7,8 @@ use crate::keys::first_quote;
 use crate::keys::has_notation;
 use crate::keys::key;
 use crate::keys::same_symbol;
+use crate::tables::NAMES;
+use crate::tables::PREFIXES;
 ghost use mathlib.Core.Path.{_≡_};
 ghost use mathlib.Core.Bool.{false, _&&_};
 ghost use mathlib.Core.List.{List};
@@ -21,14 +23,10 @@ ghost use Rattle.symbols.specs.Sets.{has-bit};
 ghost use Rattle.symbols.specs.Columns.{NameColumns, prefix-codes};
 ghost use Rattle.symbols.specs.Views.{place, symbol-in, Bounded, UpTo, LettersAt, after-prefix, CutAt, FirstPrefixed};
 
-// How many names and prefixes the tables have, and how many letters a key can hold.
-const NAMES: usize = 67;
-
-const PREFIXES: usize = 20;
-
 // In how many groups the keys of the names are.
 const GROUPS: u64 = 147;
 
+// How many letters a key can hold.
 const MOST_LETTERS: usize = 8;
 
 // Whether notation `n` knows a spelling by the name of that key and code.

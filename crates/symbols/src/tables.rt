@@ -5,8 +5,15 @@ ghost use Rattle.symbols.specs.Columns.{name-keys, name-codes};
 ghost use Rattle.symbols.specs.Columns.{prefix-codes, prefix-powers};
 ghost use Rattle.symbols.specs.Columns.{unit-prefixed, unit-recommended, unit-bases, unit-powers, unit-primes};
 
+// How many names, prefixes and units there are.
+pub const NAMES: usize = 67;
+
+pub const PREFIXES: usize = 20;
+
+pub const UNITS: usize = 61;
+
 // Each name as one number in base 256, first letter highest.
-const NAME_KEYS: [u64; 67] = [
+const NAME_KEYS: [u64; NAMES] = [
     109, // m
     103, // g
     115, // s
@@ -77,7 +84,7 @@ const NAME_KEYS: [u64; 67] = [
 ];
 
 // For each name how many letters it has, the notations that know it as a set of bits, and the row of its unit: a byte each.
-const NAME_CODES: [u32; 67] = [
+const NAME_CODES: [u32; NAMES] = [
     0x01_0f_00, // m
     0x01_0f_01, // g
     0x01_0f_02, // s
@@ -148,7 +155,7 @@ const NAME_CODES: [u32; 67] = [
 ];
 
 // Each prefix as one number: how many letters it has, and below that its letters, a byte each in the lowest two.
-const PREFIX_CODES: [u32; 20] = [
+const PREFIX_CODES: [u32; PREFIXES] = [
     0x26461, // da
     0x10068, // h
     0x1006b, // k
@@ -172,7 +179,7 @@ const PREFIX_CODES: [u32; 20] = [
 ];
 
 // The power of ten that each prefix multiplies by.
-const PREFIX_POWERS: [i8; 20] = [
+const PREFIX_POWERS: [i8; PREFIXES] = [
     1, // da
     2, // h
     3, // k
@@ -196,7 +203,7 @@ const PREFIX_POWERS: [i8; 20] = [
 ];
 
 // The notations in which a prefix is lawful on each unit, as a set of bits.
-const UNIT_PREFIXED: [u8; 61] = [
+const UNIT_PREFIXED: [u8; UNITS] = [
     15, // m
     15, // g
     15, // s
@@ -261,7 +268,7 @@ const UNIT_PREFIXED: [u8; 61] = [
 ];
 
 // Whether each unit is recommended.
-const UNIT_RECOMMENDED: [bool; 61] = [
+const UNIT_RECOMMENDED: [bool; UNITS] = [
     true, // m
     true, // g
     true, // s
@@ -326,7 +333,7 @@ const UNIT_RECOMMENDED: [bool; 61] = [
 ];
 
 // The bases of each unit, in four slots. An unused slot has base 0.
-const UNIT_BASES: [u8; 244] = [
+const UNIT_BASES: [u8; UNITS * 4] = [
     0, // m
     0,
     0,
@@ -574,7 +581,7 @@ const UNIT_BASES: [u8; 244] = [
 ];
 
 // The powers of these bases. An unused slot has power 0.
-const UNIT_POWERS: [i8; 244] = [
+const UNIT_POWERS: [i8; UNITS * 4] = [
     1, // m
     0,
     0,
@@ -822,7 +829,7 @@ const UNIT_POWERS: [i8; 244] = [
 ];
 
 // The exponents of 2, 3, 5 and 487 in each unit's size.
-const UNIT_PRIMES: [i8; 244] = [
+const UNIT_PRIMES: [i8; UNITS * 4] = [
     0, // m
     0,
     0,
@@ -1069,55 +1076,55 @@ const UNIT_PRIMES: [i8; 244] = [
     0,
 ];
 
-pub fn name_keys() -> [u64; 67]
+pub fn name_keys() -> [u64; NAMES]
     ensures { λ r. ⌜ r ≡ name-keys ⌝ }
 {
     NAME_KEYS
 }
 
-pub fn name_codes() -> [u32; 67]
+pub fn name_codes() -> [u32; NAMES]
     ensures { λ r. ⌜ r ≡ name-codes ⌝ }
 {
     NAME_CODES
 }
 
-pub fn prefix_codes() -> [u32; 20]
+pub fn prefix_codes() -> [u32; PREFIXES]
     ensures { λ r. ⌜ r ≡ prefix-codes ⌝ }
 {
     PREFIX_CODES
 }
 
-pub fn prefix_powers() -> [i8; 20]
+pub fn prefix_powers() -> [i8; PREFIXES]
     ensures { λ r. ⌜ r ≡ prefix-powers ⌝ }
 {
     PREFIX_POWERS
 }
 
-pub fn unit_prefixed() -> [u8; 61]
+pub fn unit_prefixed() -> [u8; UNITS]
     ensures { λ r. ⌜ r ≡ unit-prefixed ⌝ }
 {
     UNIT_PREFIXED
 }
 
-pub fn unit_recommended() -> [bool; 61]
+pub fn unit_recommended() -> [bool; UNITS]
     ensures { λ r. ⌜ r ≡ unit-recommended ⌝ }
 {
     UNIT_RECOMMENDED
 }
 
-pub fn unit_bases() -> [u8; 244]
+pub fn unit_bases() -> [u8; UNITS * 4]
     ensures { λ r. ⌜ r ≡ unit-bases ⌝ }
 {
     UNIT_BASES
 }
 
-pub fn unit_powers() -> [i8; 244]
+pub fn unit_powers() -> [i8; UNITS * 4]
     ensures { λ r. ⌜ r ≡ unit-powers ⌝ }
 {
     UNIT_POWERS
 }
 
-pub fn unit_primes() -> [i8; 244]
+pub fn unit_primes() -> [i8; UNITS * 4]
     ensures { λ r. ⌜ r ≡ unit-primes ⌝ }
 {
     UNIT_PRIMES

@@ -1,7 +1,9 @@
 -- `rewriting::name::first_name` meets its contract: each run of rows is computed from the table of units.
+use Prim.Native.Nat.{_+_, _-_}
 use native.Mathlib.Omega.{arith}
 use mathlib.Core.Path.{refl}
 use borrow.Author.Needs.{needs}
+use Rattle.symbols.specs.Columns.{unit-count}
 use Rattle.rewriting.proofs.NameTable.{rows-compute, first-in-row}
 use Rattle.rewriting.proofs.name.first_name.Statement.{statement}
 use Rattle.rewriting.proofs.name.first_name.Tie as tie
@@ -23,4 +25,4 @@ first-name-spec =
     (λ c. first-in-row 40 8 3 refl _ (omega arith) (omega arith))
     (λ c. first-in-row 48 4 4 refl _ (omega arith) (omega arith))
     (λ c. first-in-row 52 8 5 refl _ (omega arith) (omega arith))
-    (λ c. first-in-row 60 2 6 refl _ (omega arith) (omega arith)))
+    (λ c. first-in-row 60 (unit-count + 1 - 60) 6 refl _ (omega arith) (omega arith)))

@@ -3,7 +3,8 @@ use native.Mathlib.Omega.{arith}
 use borrow.Author.Needs.{needs}
 use borrow.Author.Tests.{not-true, not-false}
 use mathlib.Core.Path.{sym, _∙_}
-use Rattle.rewriting.proofs.Delivering.{refuses, keeps, answers-as, buffer-as, source-refused, notation-small, target-refused, terms-are, target-written}
+use Rattle.notations.proofs.Numbers.{in-range}
+use Rattle.rewriting.proofs.Delivering.{refuses, keeps, answers-as, buffer-as, source-refused, target-refused, terms-are, target-written}
 use Rattle.rewriting.proofs.rewrite.rewrite.Statement.{statement}
 use Rattle.rewriting.proofs.rewrite.rewrite.Tie as tie
 
@@ -18,7 +19,7 @@ returns-2 c =
     (refuses 1 e, keeps 1 _ e)
 
 cast-style-of : tie.Need-cast-style-of
-cast-style-of c = omega (arith, notation-small _ (sym (c .before .is-notation .ensures) ∙ not-false _ (c .if2 .left)))
+cast-style-of c = omega (arith, in-range _ (sym (c .before .is-notation .ensures) ∙ not-false _ (c .if2 .left)) .most)
 
 style-of-requires : tie.Need-style-of-requires
 style-of-requires c κs = sym (c .before .is-notation .ensures) ∙ not-false _ (c .if2 .left)

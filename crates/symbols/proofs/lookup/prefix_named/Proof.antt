@@ -4,6 +4,7 @@ use native.Mathlib.Omega.{arith}
 use borrow.Author.Needs.{needs}
 use Rattle.label.specs.Ranges.{between}
 use Rattle.label.proofs.Between.{length-between}
+use Rattle.symbols.specs.Columns.{prefix-count}
 use Rattle.symbols.proofs.KeyLaws.{spelled-part}
 use Rattle.symbols.proofs.PrefixLaws.{Searching, search-none, search-hit, search-miss, search-all, too-long, codes-count}
 use Rattle.symbols.proofs.lookup.prefix_named.Statement.{statement}
@@ -13,7 +14,7 @@ abbrev Inv-loop : tie.InvT-loop
 Inv-loop prefixes s start end size number i₀ i = Searching prefixes (between s start end) size number i
 
 abbrev μ-loop : tie.MeasureT-loop
-μ-loop prefixes s start end size number i₀ i = 20 - i
+μ-loop prefixes s start end size number i₀ i = prefix-count - i
 
 sub-size : tie.Need-sub-size Inv-loop μ-loop
 sub-size c = omega arith

@@ -4,6 +4,7 @@ use native.Mathlib.Omega.{arith}
 use borrow.Author.Needs.{needs}
 use Rattle.label.specs.Ranges.{between}
 use Rattle.label.proofs.Between.{length-between}
+use Rattle.symbols.specs.Columns.{name-count}
 use Rattle.symbols.proofs.KeyLaws.{spelled-part}
 use Rattle.symbols.proofs.NameLaws.{Searching, search-start, search-hit, search-miss, search-all, too-long, unit-room}
 use Rattle.symbols.proofs.NameLaws.{key-column-count, code-column-count}
@@ -14,7 +15,7 @@ abbrev Inv-loop : tie.InvT-loop
 Inv-loop keys codes n s start end size number i₀ i = Searching keys codes n (between s start end) size number i
 
 abbrev μ-loop : tie.MeasureT-loop
-μ-loop keys codes n s start end size number i₀ i = 67 - i
+μ-loop keys codes n s start end size number i₀ i = name-count - i
 
 sub-size : tie.Need-sub-size Inv-loop μ-loop
 sub-size c = omega arith

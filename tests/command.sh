@@ -242,7 +242,7 @@ for arguments in --help 'read --help' 'convert -h'; do
     awk 'length > 80 { print; exit 1 }' "$directory/out" || fail 'the help has more than 80 columns'
     grep -q '^usage: thalinguze read NOTATION LABEL' "$directory/out" || fail "thalinguze $arguments: no usage"
 done
-version=$(sed -n 's/^#define THALINGUZE_VERSION_STRING "\(.*\)"/\1/p' include/thalinguze.h)
+version=$(sed -n 's/^.define THALINGUZE_VERSION_[A-Z]* \([0-9][0-9]*\)$/\1/p' include/thalinguze.h | paste -s -d .)
 says 0 out --version <<END
 thalinguze $version
 END

@@ -215,7 +215,7 @@ static int literal(const uint8_t *record, size_t field) {
     return at[7] & 128 ? -(int)((at[0] | at[1] << 8) ^ 0xffff) - 1 : at[0] | at[1] << 8;
 }
 
-/* the layout as decision D40 has it, without the header's constants */
+/* the layout as decision D46 has it, without the header's constants */
 enum { SIZE = 2128, FIELDS = 266, DIMENSIONS = 230, SCALE = 262 };
 
 /* every field at its place, and no byte past the record */

@@ -38,15 +38,10 @@ int unit_of(const char *symbol) {
     return unit;
 }
 
-const char *name_of(int unit, int i) {
-    return i == 0 ? unit_words[unit][SYMBOL] : OTHER + i - 1 < WORDS ? unit_words[unit][OTHER + i - 1] : NULL;
-}
-
 const char *name_in(uint32_t notation, int unit) {
-    const char *name;
-    for (int i = 0; (name = name_of(unit, i)); i++)
-        if (is_sound(notation, name) && thalinguze_term_unit(ask(notation, name).record, 0) == unit)
-            return name;
+    for (int i = SYMBOL; i < WORDS && unit_words[unit][i]; i++)
+        if (is_sound(notation, unit_words[unit][i]) && thalinguze_term_unit(ask(notation, unit_words[unit][i]).record, 0) == unit)
+            return unit_words[unit][i];
     return NULL;
 }
 

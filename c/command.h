@@ -9,9 +9,8 @@
 #include <string.h>
 #include "words.h"
 
-enum { REFUSED = 1, WRONG_CALL = 2 }; /* exit statuses */
+enum { REFUSED = 1, WRONG_CALL = 2, TEXT_ROOM = 4096 }; /* exit statuses; how many bytes a text has */
 /* Text that is added to, ended by a byte 0; starts as {0}. What does not fit is left out; a label of that length is refused anyway. */
-enum { TEXT_ROOM = 4096 };
 struct text {
     size_t length;
     char s[TEXT_ROOM];
@@ -28,8 +27,7 @@ bool accepts(uint32_t notation, const char *label);
 bool is_sound(uint32_t notation, const char *label); /* accepted, every unit known, every prefix lawful */
 uint32_t ask_rewriting(uint32_t source, const char *label, uint32_t target, struct text *result);
 int unit_of(const char *symbol);                  /* the code of a unit, or 0 */
-const char *name_of(int unit, int i);             /* name i of a unit, counted from 0, or NULL */
-const char *name_in(uint32_t notation, int unit); /* the first that the notation knows, or NULL */
+const char *name_in(uint32_t notation, int unit); /* the first of a unit's names that the notation knows, or NULL */
 struct text spelling_of(const char *label, const uint8_t *record, unsigned i);
 bool same_terms(const uint8_t *a, const uint8_t *b, bool units); /* the same k and exponents, and if asked the same prefixes and units */
 /* say.c: readings and numbers in words */

@@ -77,7 +77,7 @@ static void list_name(uint32_t notation, const char *name, int unit) {
 
 int list_units(uint32_t notation) {
     for (int unit = 1; unit <= THALINGUZE_UNITS; unit++)
-        for (int i = 0; name_of(unit, i); i++)
-            list_name(notation, name_of(unit, i), unit);
+        for (int i = SYMBOL; i < WORDS && unit_words[unit][i]; i++)
+            list_name(notation, unit_words[unit][i], unit);
     return 0;
 }

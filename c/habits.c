@@ -101,18 +101,17 @@ size_t leading_number(const char *s, int *k) {
 }
 
 /* spaces and quotes round the whole label */
-static void replace_ends(uint32_t notation, const char *s, struct text *to) {
+static void replace_ends(__attribute__((unused)) uint32_t notation, const char *s, struct text *to) {
     size_t first = strspn(s, " "), end = strlen(s);
     while (end > first && s[end - 1] == ' ')
         end--;
     bool quoted = end > first + 2 && is_one_of(s[first], "'\"`") && strchr(s + first + 1, s[first]) == s + end - 1;
     quoted &= !accepts(THALINGUZE_VOUNITS, s); /* where quotes are round a unit of the author's own */
     put(to, "%.*s", (int)(end - first - 2 * quoted), s + first + quoted);
-    (void)notation;
 }
 
 /* spaces that join nothing, and several that join */
-static void replace_spaces(uint32_t notation, const char *s, struct text *to) {
+static void replace_spaces(__attribute__((unused)) uint32_t notation, const char *s, struct text *to) {
     for (size_t i = 0, end; s[i]; i = end) {
         end = i + strspn(s + i, " ");
         char before = i ? s[i - 1] : 0;
@@ -121,7 +120,6 @@ static void replace_spaces(uint32_t notation, const char *s, struct text *to) {
         else if (!is_one_of(before, "(/*.^") && !is_one_of(s[end], ")/*.^") && !(is_unit_byte(before) && starts_integer(s + end)))
             put(to, " ");
     }
-    (void)notation;
 }
 
 /* a power of ten at the start */

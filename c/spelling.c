@@ -27,8 +27,8 @@ static bool put_meant(uint32_t notation, const char *spelling, bool mega, struct
             const char *prefix = prefix_words[p].symbol;
             struct text t = {0};
             bool meant = is_form(spelling, prefix_words[p].word, unit_words[u][WORD], mega);
-            for (int i = 0; name_of(u, i); i++)
-                meant |= is_form(spelling, prefix, name_of(u, i), mega);
+            for (int i = SYMBOL; i < WORDS && unit_words[u][i]; i++)
+                meant |= is_form(spelling, prefix, unit_words[u][i], mega);
             const char *name = meant ? name_in(notation, u) : NULL;
             put(&t, "%s%s", prefix, name ? name : "");
             if (name && is_sound(notation, t.s)) {

@@ -2,18 +2,16 @@
 #include <strings.h>
 #include "command.h"
 
-/* the help, up to the notations and after them */
-static const char help[] =
+static const char help[] = /* the sign % is for the notations */
     "usage: thalinguze read NOTATION LABEL           what a unit label means\n"
     "       thalinguze rewrite FROM LABEL TO         the label in another notation\n"
     "       thalinguze convert FROM LABEL TO LABEL   the factor between two labels\n"
     "       thalinguze list NOTATION                 the units that a notation knows\n"
     "       thalinguze read --vectors, convert --vectors   both for programs\n"
     "       thalinguze --version, --help\n"
-    "The notations and their numbers; letters may be small or capital:\n";
-static const char more_help[] =
-    "read also takes all, for every notation. A label is one argument: put quotes\n"
-    "round it. With --long, read and convert leave nothing out.\n"
+    "A notation is %s, in small or\n"
+    "capital letters. read also takes all, for every notation. A label is one\n"
+    "argument: put quotes round it. With --long, read and convert leave nothing out.\n"
     "  thalinguze read cds 'kg/m.s'\n"
     "  thalinguze rewrite cds '10+3pix/h' ogip\n"
     "  thalinguze convert cds km/h fits m/s\n"
@@ -30,27 +28,17 @@ static const char more_help[] =
     "and the same again. It prints each line with its answer, in the formats of\n"
     "vectors/README.md, and names malformed lines on standard error.\n";
 
-static void print_help(void) {
-    fputs(help, stdout);
-    for (uint32_t n = 1; n <= NOTATIONS; n++) {
-        const struct notation_word *w = &notation_words[n];
-        bool same = strcasecmp(w->argument, w->name) == 0;
-        printf("  %u %s%s%s\n", n, w->argument, same ? "" : " or ", same ? "" : w->name);
-    }
-    fputs(more_help, stdout);
-}
-
-static int wrong_call(const char *what) {
-    fprintf(stderr, "thalinguze: %s\nFor help: thalinguze --help\n", what);
-    return WRONG_CALL;
-}
-
-static int no_notation(void) {
-    struct text what = {0};
-    put(&what, "there is no such notation; the notations are");
+/* the notations' names, with their numbers */
+static struct text notation_list(void) {
+    struct text t = {0};
     for (uint32_t n = 1; n <= NOTATIONS; n++)
-        put(&what, "%s %s", n == 1 ? "" : n < NOTATIONS ? "," : " and", notation_words[n].argument);
-    return wrong_call(what.s);
+        put(&t, "%s%s (%u)", n == 1 ? "" : n < NOTATIONS ? ", " : " or ", notation_words[n].argument, (unsigned)n);
+    return t;
+}
+
+static int wrong_call(const char *what, const char *more) {
+    fprintf(stderr, "thalinguze: %s%s\nFor help: thalinguze --help\n", what, more);
+    return WRONG_CALL;
 }
 
 /* the number of a notation's name; 0 for any other text */
@@ -90,16 +78,16 @@ static int run_command(int count, char **words, bool in_full) {
     while (c < 4 && (count == 0 || strcmp(words[0], names[c]) != 0))
         c++;
     if (c == 4)
-        return wrong_call("the first word must be read, rewrite, convert or list");
+        return wrong_call("the first word must be read, rewrite, convert or list", "");
     if (count == 2 && strcmp(words[1], "--vectors") == 0 && (c == 0 || c == 2))
         return print_vectors(c == 2);
     if (count != counts[c])
-        return wrong_call("there are too few words or too many; put quotes round a label with spaces or brackets");
+        return wrong_call("there are too few words or too many; put quotes round a label with spaces or brackets", "");
     if (c == 0 && strcasecmp(words[1], "all") == 0)
         return read_label(1, NOTATIONS, words[2], in_full);
     uint32_t from = notation_of(words[1]), to = c == 1 || c == 2 ? notation_of(words[3]) : from;
     if (from == 0 || to == 0)
-        return no_notation();
+        return wrong_call("there is no such notation; a notation is ", notation_list().s);
     return c == 0 ? read_label(from, from, words[2], in_full) : c == 1 ? rewrite_label(from, words[2], to)
          : c == 2 ? convert_labels(from, words[2], to, words[4], in_full) : list_units(from);
 }
@@ -115,14 +103,13 @@ int main(int argc, char **argv) {
             words[count++] = argv[i];
     }
     if (wants_help)
-        print_help();
+        printf(help, notation_list().s);
     else if (count == 1 && strcmp(words[0], "--version") == 0)
         printf("thalinguze %s\n", THALINGUZE_VERSION_STRING);
     else
         status = run_command(count, words, in_full);
-    if (fflush(stdout) != 0 || ferror(stdout)) {
+    bool failed = fflush(stdout) != 0 || ferror(stdout);
+    if (failed)
         perror("thalinguze: standard output");
-        return WRONG_CALL;
-    }
-    return status;
+    return failed ? WRONG_CALL : status;
 }

@@ -115,9 +115,7 @@ int print_vectors(bool converting) {
         }
     }
     free(line);
-    if (ferror(stdin)) {
+    if (ferror(stdin))
         perror("thalinguze: standard input");
-        status = WRONG_CALL;
-    }
-    return status;
+    return ferror(stdin) ? WRONG_CALL : status;
 }

@@ -40,25 +40,24 @@ struct prefix_word {
 
 enum { PREFIXES = THALINGUZE_PREFIX_YOCTO };
 static const struct prefix_word prefix_words[PREFIXES + 1] = {
-    {"", "", 0},
-    {"da", "deca", 1}, {"h", "hecto", 2}, {"k", "kilo", 3}, {"M", "mega", 6}, {"G", "giga", 9},
+    {"", "", 0}, {"da", "deca", 1}, {"h", "hecto", 2}, {"k", "kilo", 3}, {"M", "mega", 6}, {"G", "giga", 9},
     {"T", "tera", 12}, {"P", "peta", 15}, {"E", "exa", 18}, {"Z", "zetta", 21}, {"Y", "yotta", 24},
     {"d", "deci", -1}, {"c", "centi", -2}, {"m", "milli", -3}, {"u", "micro", -6}, {"n", "nano", -9},
     {"p", "pico", -12}, {"f", "femto", -15}, {"a", "atto", -18}, {"z", "zepto", -21}, {"y", "yocto", -24},
 };
-/* A unit as labels write it, as a person says it, and from OTHER on its other names in labels. */
-enum { SYMBOL, WORD, OTHER, WORDS };
+/* A unit as a person says it, and from SYMBOL on its names in labels. */
+enum { WORD, SYMBOL, OTHER, WORDS };
 static const char *const unit_words[THALINGUZE_UNITS + 1][WORDS] = {
-    {"?", "unknown"}, {"m", "metre"}, {"g", "gram"}, {"s", "second"}, {"A", "ampere"}, {"K", "kelvin"}, {"mol", "mole"}, {"cd", "candela"},
-    {"rad", "radian"}, {"sr", "steradian"}, {"Hz", "hertz"}, {"N", "newton"}, {"Pa", "pascal"}, {"J", "joule"}, {"W", "watt"},
-    {"C", "coulomb"}, {"V", "volt"}, {"S", "siemens"}, {"F", "farad"}, {"Wb", "weber"}, {"T", "tesla"}, {"H", "henry"}, {"lm", "lumen"},
-    {"lx", "lux"}, {"min", "minute"}, {"h", "hour"}, {"d", "day"}, {"yr", "year", "a"}, {"deg", "degree"}, {"arcmin", "arcminute"},
-    {"arcsec", "arcsecond"}, {"AU", "astronomical unit"}, {"pc", "parsec"}, {"eV", "electronvolt"}, {"Jy", "jansky"}, {"barn", "barn"},
-    {"mag", "magnitude"}, {"byte", "byte"}, {"mas", "milliarcsecond"}, {"pixel", "pixel", "pix"}, {"count", "count", "ct"},
-    {"Ry", "rydberg"}, {"solMass", "solar mass"}, {"solLum", "solar luminosity"}, {"solRad", "solar radius"}, {"D", "debye"},
-    {"Sun", "Sun"}, {"bit", "bit"}, {"ohm", "ohm", "Ohm"}, {"erg", "erg"}, {"G", "gauss"}, {"lyr", "light year"},
-    {"photon", "photon", "ph"}, {"chan", "channel"}, {"bin", "bin"}, {"voxel", "voxel"}, {"u", "atomic mass unit"}, {"R", "rayleigh"},
-    {"adu", "analogue-to-digital unit"}, {"beam", "beam"}, {"angstrom", "angstrom", "Angstrom"}, {"%", "percent"},
+    {"unknown", "?"}, {"metre", "m"}, {"gram", "g"}, {"second", "s"}, {"ampere", "A"}, {"kelvin", "K"}, {"mole", "mol"}, {"candela", "cd"},
+    {"radian", "rad"}, {"steradian", "sr"}, {"hertz", "Hz"}, {"newton", "N"}, {"pascal", "Pa"}, {"joule", "J"}, {"watt", "W"},
+    {"coulomb", "C"}, {"volt", "V"}, {"siemens", "S"}, {"farad", "F"}, {"weber", "Wb"}, {"tesla", "T"}, {"henry", "H"}, {"lumen", "lm"},
+    {"lux", "lx"}, {"minute", "min"}, {"hour", "h"}, {"day", "d"}, {"year", "yr", "a"}, {"degree", "deg"}, {"arcminute", "arcmin"},
+    {"arcsecond", "arcsec"}, {"astronomical unit", "AU"}, {"parsec", "pc"}, {"electronvolt", "eV"}, {"jansky", "Jy"}, {"barn", "barn"},
+    {"magnitude", "mag"}, {"byte", "byte"}, {"milliarcsecond", "mas"}, {"pixel", "pixel", "pix"}, {"count", "count", "ct"},
+    {"rydberg", "Ry"}, {"solar mass", "solMass"}, {"solar luminosity", "solLum"}, {"solar radius", "solRad"}, {"debye", "D"},
+    {"Sun", "Sun"}, {"bit", "bit"}, {"ohm", "ohm", "Ohm"}, {"erg", "erg"}, {"gauss", "G"}, {"light year", "lyr"},
+    {"photon", "photon", "ph"}, {"channel", "chan"}, {"bin", "bin"}, {"voxel", "voxel"}, {"atomic mass unit", "u"}, {"rayleigh", "R"},
+    {"analogue-to-digital unit", "adu"}, {"beam", "beam"}, {"angstrom", "angstrom", "Angstrom"}, {"percent", "%"},
 };
 /* The bases, each a unit of its own, and the primes of a scale. */
 static const char *const base_symbols[THALINGUZE_BASES] = {

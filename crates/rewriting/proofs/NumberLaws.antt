@@ -12,76 +12,26 @@ use lib.Signed.{ltZ, nonNeg}
 use mir.Syntax.{w32, w64}
 use mir.Val.{Fits, SFits, toZ, ofZ}
 use mir.Facts.{toZ-ofZ}
-use borrow.Author.Tests.{ltb-true, le-ltb, lt-leb, le-leb, eq-eqb, ne-eqb}
-use Rattle.label.proofs.Basics.{false-true}
+use borrow.Author.Tests.{le-ltb, lt-leb, le-leb, eq-eqb, ne-eqb}
+use Rattle.content.proofs.HeldSigns.{negative as held-negative, held-rest, natural, held}
 use Rattle.label.specs.Limits.{negative, denominator-among}
 use Rattle.label.specs.Writing.{figures-before}
 
 -- SIGNED NUMBERS OF 32 BITS
 
-below-one : (n : ℕ) → negsuc 0 -ℤ negsuc n ≡ pos n
-below-one n =
-    let e : ltb (suc n) 1 ≡ false = le-ltb (suc n) 1 (omega arith) in
-    let q : suc n - 1 ≡ n = omega arith in
-    rw (e, q)
-
--- the number z is below 0
-pub record Below (z : ℤ) : Type 0 where
-  pub n : ℕ
-  pub is : z ≡ negsuc n
-  pub small : n < 2 ^ 31
-
-below-of : (z : ℤ) → SFits w32 z → ltZ z (pos 0) ≡ true → Below z
-below-of (pos n) f t = absurd (omega (arith, ltb-true n 0 t))
-below-of (negsuc n) f t = record { n = n; is = refl; small = f .sfits }
-
 module _ {z : ℤ} (f : SFits w32 z) (t : ltZ (toZ w32 (ofZ w32 z)) (pos 0) ≡ true) where
   abbrev rest : ℤ
   rest = negsuc 0 -ℤ toZ w32 (ofZ w32 z)
 
-  below : Below z
-  below = below-of z f (rw (← toZ-ofZ f) t)
-
-  rest-is : rest ≡ pos (below .n)
-  rest-is = ap (λ (y : ℤ). negsuc 0 -ℤ y) (toZ-ofZ f ∙ below .is) ∙ below-one (below .n)
-
-  pub rest-fits : SFits w32 rest
-  rest-fits = rw rest-is (record { sfits = below .small })
-
-  held-rest : toZ w32 (ofZ w32 rest) ≡ pos (below .n)
-  held-rest = toZ-ofZ rest-fits ∙ rest-is
-
-  pub rest-cast : T (nonNeg (toZ w32 (ofZ w32 rest))) × Fits w64 (natAbs (toZ w32 (ofZ w32 rest)))
-  rest-cast = rw held-rest (tt, record { fits = omega (arith, below .small) })
-
   pub rest-more : Fits w64 (natAbs (toZ w32 (ofZ w32 rest)) + 1)
-  rest-more = rw held-rest (record { fits = omega (arith, below .small) })
+  rest-more = rw (held-rest f t) (record { fits = omega (arith, held-negative f t .small) })
 
   pub below-size : (natAbs (toZ w32 (ofZ w32 rest)) + 1 ≡ natAbs z) × (natAbs (toZ w32 (ofZ w32 rest)) + 1 ≤ 2 ^ 31)
-  below-size = rw held-rest (add-one (below .n) ∙ sym (ap natAbs (below .is)), omega (arith, below .small))
+  below-size = rw (held-rest f t) (add-one (held-negative f t .n) ∙ sym (ap natAbs (held-negative f t .is)), omega (arith, held-negative f t .small))
 
--- the number z is not below 0
-pub record Above (z : ℤ) : Type 0 where
-  pub n : ℕ
-  pub is : z ≡ pos n
-  pub small : n < 2 ^ 31
-
-above-of : (z : ℤ) → SFits w32 z → ltZ z (pos 0) ≡ false → Above z
-above-of (pos n) f t = record { n = n; is = refl; small = f .sfits }
-above-of (negsuc n) f t = absurd (false-true (sym t))
-
-module _ {z : ℤ} (f : SFits w32 z) (t : ltZ (toZ w32 (ofZ w32 z)) (pos 0) ≡ false) where
-  above : Above z
-  above = above-of z f (rw (← toZ-ofZ f) t)
-
-  held : toZ w32 (ofZ w32 z) ≡ pos (above .n)
-  held = toZ-ofZ f ∙ above .is
-
-  pub above-cast : T (nonNeg (toZ w32 (ofZ w32 z))) × Fits w64 (natAbs (toZ w32 (ofZ w32 z)))
-  above-cast = rw held (tt, record { fits = omega (arith, above .small) })
-
-  pub above-size : (natAbs (toZ w32 (ofZ w32 z)) ≡ natAbs z) × (natAbs (toZ w32 (ofZ w32 z)) ≤ 2 ^ 31)
-  above-size = rw held (sym (ap natAbs (above .is)), omega (arith, above .small))
+pub above-size : {z : ℤ} (f : SFits w32 z) → ltZ (toZ w32 (ofZ w32 z)) (pos 0) ≡ false
+    → (natAbs (toZ w32 (ofZ w32 z)) ≡ natAbs z) × (natAbs (toZ w32 (ofZ w32 z)) ≤ 2 ^ 31)
+above-size f t = rw (held f t) (sym (ap natAbs (natural f t .is)), omega (arith, natural f t .small))
 
 sign-of : (z : ℤ) → ltZ z (pos 0) ≡ negative z
 sign-of (pos n) = le-ltb n 0 (omega arith)

@@ -10,8 +10,8 @@ size-spec =
     tie.close
     (tie.spec
     (λ c. rest-fits (c .before .fits .z) (c .if1 .taken))
-    (λ c. rest-cast (c .before .fits .z) (c .if1 .taken))
+    (λ c. rest-cast (c .before .fits .z) (c .if1 .taken) (omega arith))
     (λ c. omega (arith, rest-more (c .before .fits .z) (c .if1 .taken)))
     (λ c. rest-size (c .before .fits .z) (c .if1 .taken))
-    (λ c. natural-cast (c .before .fits .z) (c .if1 .left))
+    (λ c. natural-cast (c .before .fits .z) (c .if1 .left) (omega arith))
     (λ c. bits-size (c .before .fits .z)))

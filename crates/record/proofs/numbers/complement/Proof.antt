@@ -1,4 +1,5 @@
 -- `record::numbers::complement` meets its contract: a negative number and any other.
+use native.Mathlib.Omega.{arith}
 use Rattle.content.proofs.HeldSigns.{rest-fits, rest-cast, natural-cast}
 use Rattle.record.proofs.Signed.{rest-below, negative-is, natural-is}
 use Rattle.record.proofs.numbers.complement.Statement.{statement}
@@ -9,8 +10,8 @@ complement-spec =
     tie.close
     (tie.spec
     (λ c. rest-fits (c .before .fits .v) (c .if1 .taken))
-    (λ c. rest-cast (c .before .fits .v) (c .if1 .taken))
+    (λ c. rest-cast (c .before .fits .v) (c .if1 .taken) (omega arith))
     (λ c. rest-below (c .before .fits .v) (c .if1 .taken))
     (λ c. negative-is (c .before .fits .v) (c .if1 .taken))
-    (λ c. natural-cast (c .before .fits .v) (c .if1 .left))
+    (λ c. natural-cast (c .before .fits .v) (c .if1 .left) (omega arith))
     (λ c. natural-is (c .before .fits .v) (c .if1 .left)))

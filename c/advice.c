@@ -94,7 +94,8 @@ static void suggest_by_others(struct advice *a, bool as_it_stands) {
         say_reading(&said, a->plain.s, ask(n, a->plain.s).record);
         if (ask_rewriting(n, a->plain.s, a->notation, &result) == THALINGUZE_ACCEPTED && is_sound(a->notation, result.s)) {
             struct reading here = ask(a->notation, result.s), first = ask(a->notation, a->list[0].label);
-            if (a->count && a->list[0].claim == SAME && same_terms(here.record, first.record, true))
+            bool told = as_it_stands ? strcmp(a->list[0].label, result.s) == 0 : same_terms(here.record, first.record, true);
+            if (a->count && a->list[0].claim == SAME && told)
                 put(&names, "%s%s", names.length ? " and " : "", notation_words[n].name);
             else
                 suggest(a, ANOTHER, n, result.s);

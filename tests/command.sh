@@ -114,6 +114,12 @@ Refused, number 4: the label does not follow the rules of FITS.
 Labels have no functions, and log10 before a bracket is one. Write the plain unit, and say the function outside the label.
 Labels of FITS look like these: kg m2/s3; 10**3 erg/(s cm2); Hz(1/2)
 END
+says 1 out read fits 'W /m**2' <<'END'
+Refused, number 4: the label does not follow the rules of FITS.
+In FITS one space may join units, and there are no other spaces.
+Write: W/m**2
+As OGIP this is watt, metre to the power minus 2; in FITS: W m-2
+END
 says 1 out read fits 'm/s²' <<'END'
 Refused, number 3: the label has signs that are not plain ASCII.
 No label has a superscript two.

@@ -25,7 +25,7 @@ use Rattle.label.proofs.Refusals.{units-values, values-length}
 use Rattle.values.specs.declared.factors.MaybeTens.{MaybeTens}
 use Rattle.values.specs.Given.{given}
 use Rattle.descent.specs.declared.whole.LabelRead.{LabelRead}
-use Rattle.descent.specs.Terms.{Lent, count, broken, missing, Holds}
+use Rattle.descent.specs.Terms.{Lent, count, broken, missing, HoldsUnits}
 use Rattle.descent.specs.Labels.{parsed-by, ReadsLabel}
 use Rattle.checks.specs.declared.check.Checked.{Checked}
 use Rattle.checks.specs.Checks.{due, units-in, checked-by, Rejects, ChecksValues, Checks}
@@ -104,7 +104,7 @@ module _ (f : MaybeTens) (s : List ℕ) (w : WrittenFactor) (n m : ℕ) (q : giv
         values₅ : n ≤ 32 → ChecksValues s w n m (with-number 0)
         values₅ l = record { is = accepts; few = λ _. l }
           where
-            accepts : (x : Lent) (ps : List Part) → count x ≡ n → broken x ≡ m → Holds s x ps
+            accepts : (x : Lent) (ps : List Part) → count x ≡ n → broken x ≡ m → HoldsUnits s x ps
                 → check-values s (valued (factor-in s w) ps) ≡ accept (record { k = f .k; units = units-in s x })
             accepts x ps c b h =
                 let v = rw (← h .counted) at (h .kept (omega (arith, h .counted)) (b ∙ z)) in
@@ -174,5 +174,5 @@ module _ (n : ℕ) (s : List ℕ) where
             good : o .ok ≡ true
             good = not-false (o .ok) v
 
-            holds : Holds s z (reads .tells .parts)
+            holds : HoldsUnits s z (reads .tells .parts)
             holds = reads .tells .holds good

@@ -11,7 +11,7 @@ use Rattle.label.specs.Ranges.{factor-in}
 use Rattle.label.specs.Split.{Placed, valued}
 use Rattle.label.specs.Reading.{refuse, accept, check-values, checked}
 use Rattle.label.specs.Reading as spec
-use Rattle.descent.specs.Terms.{Lent, count, broken, terms, placed-in, AllIn, Holds}
+use Rattle.descent.specs.Terms.{Lent, count, broken, terms, placed-in, AllIn, HoldsUnits}
 use Rattle.checks.specs.declared.check.Checked.{Checked}
 
 -- the units that the terms stand for
@@ -34,7 +34,7 @@ pub record Rejects (i : ℕ) (r : Checked) : Type 0 where
 
 -- a label with the factor w and n terms that are in the grammar; m says whether a power breaks its bound
 pub record ChecksValues (s : List ℕ) (w : WrittenFactor) (n m : ℕ) (r : Checked) : Type 0 where
-  pub is : (t : Lent) (ps : List Part) → count t ≡ n → broken t ≡ m → Holds s t ps
+  pub is : (t : Lent) (ps : List Part) → count t ≡ n → broken t ≡ m → HoldsUnits s t ps
       → check-values s (valued (factor-in s w) ps) ≡ checked-by (r .ok) (r .number) (r .k) (units-in s t)
   pub few : r .ok ≡ true → n ≤ 32
 

@@ -1,5 +1,5 @@
 // The bytes that a label may have.
-use scan::class::between;
+use scan::class::within;
 ghost use mathlib.Core.Path.{_≡_};
 ghost use Rattle.label.specs.Bytes.{admitted, all};
 
@@ -9,7 +9,7 @@ pub fn all_admitted(s: &[u8]) -> bool
 {
     let mut i = 0;
     while i < s.len() {
-        if !between(s[i], b' ', b'~') {
+        if !within(s[i], b' ', b'~') {
             return false;
         }
         i += 1;

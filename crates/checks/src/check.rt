@@ -9,7 +9,7 @@ use values::brackets::deepest;
 use values::factors::factor;
 ghost use mathlib.Core.Path.{_≡_};
 ghost use Rattle.label.specs.Ranges.{FactorInside};
-ghost use Rattle.descent.specs.Terms.{lent, Empty};
+ghost use Rattle.descent.specs.Terms.{lent, NoTerms};
 ghost use Rattle.checks.specs.Checks.{Rejects, ChecksValues, Checks};
 ghost use Rattle.checks.specs.Checks as spec;
 
@@ -62,7 +62,7 @@ pub fn check_values(s: &[u8], written: WrittenFactor, count: usize, broken: usiz
 
 // Refusals 1 to 7.
 pub fn check(n: u32, s: &[u8], places: &mut [usize; 66], exponents: &mut [i32; 32]) -> Checked
-    requires { ⌜ Empty (lent (now places) (now exponents)) ⌝ }
+    requires { ⌜ NoTerms (lent (now places) (now exponents)) ⌝ }
     ensures { λ r. ⌜ Checks n (now (s .entry)) (lent (now (places .exit)) (now (exponents .exit))) r ⌝ }
 {
     if !is_notation(n) {

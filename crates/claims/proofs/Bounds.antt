@@ -149,14 +149,14 @@ base-small b (unknown p l) = omega arith
 -- EXPONENTS AND THEIR SUMS
 
 -- every term's exponent is at most 99
-data Small : List Term → Type 0 where
-  none-left : Small []
-  one-more : {t : Term} {ts : List Term} → natAbs (t .exponent .0) ≤ 5_940 → Small ts → Small (t ∷ ts)
+data SmallExponents : List Term → Type 0 where
+  none-left : SmallExponents []
+  one-more : {t : Term} {ts : List Term} → natAbs (t .exponent .0) ≤ 5_940 → SmallExponents ts → SmallExponents (t ∷ ts)
 
-total-small : (f : Symbol → ℤ) (m : ℕ) → ((x : Symbol) → natAbs (f x) ≤ m) → {ts : List Term} → Small ts → natAbs (total f ts .0) ≤ length ts * (m * 5_940)
+total-small : (f : Symbol → ℤ) (m : ℕ) → ((x : Symbol) → natAbs (f x) ≤ m) → {ts : List Term} → SmallExponents ts → natAbs (total f ts .0) ≤ length ts * (m * 5_940)
 unfolding total
-total-small f m h Small.none-left = omega arith
-total-small f m h (Small.one-more {t = t} {ts = ts} e w) =
+total-small f m h SmallExponents.none-left = omega arith
+total-small f m h (SmallExponents.one-more {t = t} {ts = ts} e w) =
     omega (arith, size-sum (f (t .symbol) *ℤ t .exponent .0) (total f ts .0), size-product (f (t .symbol)) (t .exponent .0), mul-le-mul (h (t .symbol)) e, total-small f m h w)
 
 exponent-small : (turned : Bool) (w : Written) (e : Exponent) → exponent-of turned w ≡ some e → natAbs (e .0) ≤ 5_940
@@ -173,10 +173,10 @@ exponent-small turned w e h = go (ratio w) h
             omega (arith, ap natAbs x, size-signed (exclusive-or turned (r .negative)) (sixtieths r), y)
         by-test false t h = absurd (none-some h)
 
-values-small : (n b : ℕ) {ps : List Part} {us : List Placed} → Values ps us → Small (map (term n b) us)
+values-small : (n b : ℕ) {ps : List Part} {us : List Placed} → Values ps us → SmallExponents (map (term n b) us)
 unfolding term
-values-small n b Values.no-values = Small.none-left
-values-small n b (Values.value {p = p} {e = e} h vs) = Small.one-more (exponent-small (p .turned) (p .power) e h) (values-small n b vs)
+values-small n b Values.no-values = SmallExponents.none-left
+values-small n b (Values.value {p = p} {e = e} h vs) = SmallExponents.one-more (exponent-small (p .turned) (p .power) e h) (values-small n b vs)
 
 tens-small : (short negative : Bool) (n : ℕ) (k : Tens) → tens short negative n ≡ some k → natAbs (k .0) ≤ 99
 tens-small short negative n k h = go (short && leb n largest-k) refl h
@@ -205,24 +205,24 @@ valued-k f ps v h = go (k-of f) (valued-units ps) refl h
 -- READINGS
 
 -- at most 32 terms, each exponent small, k small
-record Limited (r : Reading) : Type 0 where
+record LimitedReading (r : Reading) : Type 0 where
   pub terms-few : length (r .terms) ≤ 32
-  pub exponents-small : Small (r .terms)
+  pub exponents-small : SmallExponents (r .terms)
   pub k-little : natAbs (r .k .0) ≤ 99
 
-refusal-limited : (i : ℕ) → Limited (refusal i)
+refusal-limited : (i : ℕ) → LimitedReading (refusal i)
 unfolding refusal
-refusal-limited i = record { terms-few = omega arith; exponents-small = Small.none-left; k-little = omega arith }
+refusal-limited i = record { terms-few = omega arith; exponents-small = SmallExponents.none-left; k-little = omega arith }
 
 reading-limited : (n b : ℕ) {ps : List Part} (v : Valued) → Values ps (v .units) → length (v .units) ≤ 32 → natAbs (v .k .0) ≤ 99
-    → Limited (reading-of n (v .k) (map (term n b) (v .units)))
+    → LimitedReading (reading-of n (v .k) (map (term n b) (v .units)))
 unfolding reading-of
 reading-limited n b v w h g = record { terms-few = rw length-map h; exponents-small = values-small n b w; k-little = g }
 
-limited : (n : ℕ) (s : List ℕ) → Limited (reading n s)
+limited : (n : ℕ) (s : List ℕ) → LimitedReading (reading n s)
 limited n s = go (answer-of n s)
   where
-    go : Answered n s → Limited (reading n s)
+    go : Answered n s → LimitedReading (reading n s)
     go (Answered.refusing i e d) = rw (refused-reading d) (refusal-limited i)
     go (Answered.accepting v a) = rw (accepted-reading a) (reading-limited n (length s) v w (few (decLt 32 (length (a .parts)))) (k-small (a .factor) (v .k) (valued-k (a .factor) (a .parts) v (a .within))))
       where
@@ -233,10 +233,10 @@ limited n s = go (answer-of n s)
         few (yes h) = absurd (a .clear 7 (seven (a .factor, a .parts, a .derived, h)))
         few (no h) = omega (arith, values-length w)
 
-limited-base : (b : ℕ) (r : Reading) → Limited r → natAbs (base-exponent b r) ≤ most-of-base
+limited-base : (b : ℕ) (r : Reading) → LimitedReading r → natAbs (base-exponent b r) ≤ most-of-base
 limited-base b r l = omega (arith, total-small (base-in b) 9 (base-small b) (l .exponents-small), mul-le-mul-right (9 * 5_940) (l .terms-few))
 
-limited-prime : (p : ℕ) (r : Reading) → List·Memᴰ p primes → Limited r → natAbs (prime-exponent p r) ≤ most-of-prime
+limited-prime : (p : ℕ) (r : Reading) → List·Memᴰ p primes → LimitedReading r → natAbs (prime-exponent p r) ≤ most-of-prime
 limited-prime p r m l =
     omega (
       arith,

@@ -10,11 +10,11 @@ use lib.IntN.{ℤ}
 use borrow.Author.Tests.{ne-eqb}
 use Rattle.label.specs.Split.{Valued, Refused}
 use Rattle.label.specs.Reading.{reading}
-use Rattle.label.specs.Conversion.{Conversion, refuse, unless, converted, conversion}
+use Rattle.label.specs.Conversion.{Conversion, refuse-conversion, unless, converted, conversion}
 use Rattle.label.proofs.Refusals.{bounds}
 use Rattle.label.proofs.Readings.{Accepted, Answered, answer-of, accepted-number, number-refused}
 use Rattle.claims.specs.Converting.{first-unknown, second-unknown, Due, Converts, gives}
-use Rattle.claims.proofs.Conversions.{accepted-shaped, hinder-bounds, Outcome, converted-outcome, factor-clear, factor-once}
+use Rattle.claims.proofs.Conversions.{accepted-shaped, hinder-bounds, ConversionOutcome, converted-outcome, factor-clear, factor-once}
 
 -- NUMBERS OF THE READINGS
 
@@ -24,7 +24,7 @@ refused-number {i} {n} {s} d = let h = bounds (d .holds) .0 in (h, number-refuse
 -- THE ANSWER
 
 module _ (n : ℕ) (s : List ℕ) (m : ℕ) (t : List ℕ) where
-  first-refused : {i : ℕ} → reading n s .number ≡ i → 1 ≤ i → conversion n s m t ≡ refuse i
+  first-refused : {i : ℕ} → reading n s .number ≡ i → 1 ≤ i → conversion n s m t ≡ refuse-conversion i
   unfolding conversion unless
   first-refused {i} e h =
       ap (λ (x : ℕ). unless (eqb x 0) x (unless (eqb (reading m t .number) 0) (reading m t .number) (converted (reading n s) (reading m t)))) e
@@ -34,7 +34,7 @@ module _ (n : ℕ) (s : List ℕ) (m : ℕ) (t : List ℕ) where
   unfolding conversion unless
   second-answer e = ap (λ (x : ℕ). unless (eqb x 0) x (unless (eqb (reading m t .number) 0) (reading m t .number) (converted (reading n s) (reading m t)))) e
 
-  second-refused : {i : ℕ} → reading n s .number ≡ 0 → reading m t .number ≡ i → 1 ≤ i → conversion n s m t ≡ refuse i
+  second-refused : {i : ℕ} → reading n s .number ≡ 0 → reading m t .number ≡ i → 1 ≤ i → conversion n s m t ≡ refuse-conversion i
   unfolding unless
   second-refused {i} z e h =
       second-answer z ∙ ap (λ (x : ℕ). unless (eqb x 0) x (converted (reading n s) (reading m t))) e ∙ rw (ne-eqb i 0 (λ (z : i ≡ 0). omega arith))
@@ -43,18 +43,18 @@ module _ (n : ℕ) (s : List ℕ) (m : ℕ) (t : List ℕ) where
   unfolding unless
   both-answer z e = second-answer z ∙ ap (λ (x : ℕ). unless (eqb x 0) x (converted (reading n s) (reading m t))) e
 
-  data Answer : Type 0 where
-    refused : (i : ℕ) → conversion n s m t ≡ refuse i → Due n s m t i → Answer
-    given : (x y : ℕ) (k : ℤ) → conversion n s m t ≡ gives x y k → Converts n s m t x y k → Answer
+  data ConversionAnswer : Type 0 where
+    refused : (i : ℕ) → conversion n s m t ≡ refuse-conversion i → Due n s m t i → ConversionAnswer
+    given : (x y : ℕ) (k : ℤ) → conversion n s m t ≡ gives x y k → Converts n s m t x y k → ConversionAnswer
 
-  answer : Answer
+  answer : ConversionAnswer
   answer = go (answer-of n s) (answer-of m t)
     where
-      last : {v w : Valued} → Accepted n s v → Accepted m t w → Outcome (reading n s) (reading m t) (converted (reading n s) (reading m t)) → Answer
-      last a b (Outcome.refusing i e h c) = Answer.refused i (both-answer (accepted-number a) (accepted-number b) ∙ e) (Due.both (a .clear) (b .clear) h c)
-      last a b (Outcome.giving g) =
+      last : {v w : Valued} → Accepted n s v → Accepted m t w → ConversionOutcome (reading n s) (reading m t) (converted (reading n s) (reading m t)) → ConversionAnswer
+      last a b (ConversionOutcome.refusing i e h c) = ConversionAnswer.refused i (both-answer (accepted-number a) (accepted-number b) ∙ e) (Due.both (a .clear) (b .clear) h c)
+      last a b (ConversionOutcome.giving g) =
           let x = converted (reading n s) (reading m t) in
-          Answer.given (x .numerator) (x .denominator) (x .k .0) (both-answer (accepted-number a) (accepted-number b) ∙ g .answers) (record {
+          ConversionAnswer.given (x .numerator) (x .denominator) (x .k .0) (both-answer (accepted-number a) (accepted-number b) ∙ g .answers) (record {
             first-clear = a .clear;
             second-clear = b .clear;
             first-known = λ u. g .clear 8 (first-unknown u);
@@ -64,11 +64,11 @@ module _ (n : ℕ) (s : List ℕ) (m : ℕ) (t : List ℕ) where
             within = g .within;
           })
 
-      go : Answered n s → Answered m t → Answer
-      go (Answered.refusing i e d) z = let w = refused-number d in Answer.refused i (first-refused (w .1) (w .0)) (Due.first d)
+      go : Answered n s → Answered m t → ConversionAnswer
+      go (Answered.refusing i e d) z = let w = refused-number d in ConversionAnswer.refused i (first-refused (w .1) (w .0)) (Due.first d)
       go (Answered.accepting v a) (Answered.refusing i e d) =
           let w = refused-number d in
-          Answer.refused i (second-refused (accepted-number a) (w .1) (w .0)) (Due.second (a .clear) d)
+          ConversionAnswer.refused i (second-refused (accepted-number a) (w .1) (w .0)) (Due.second (a .clear) d)
       go (Answered.accepting v a) (Answered.accepting w b) = last a b (converted-outcome (reading n s) (reading m t) (accepted-shaped a) (accepted-shaped b))
 
   -- NO OTHER ANSWER
@@ -101,41 +101,41 @@ module _ (n : ℕ) (s : List ℕ) (m : ℕ) (t : List ℕ) where
 
   -- THE CLAIMS
 
-  pub due-refused : {i : ℕ} → Due n s m t i → conversion n s m t ≡ refuse i
+  pub due-refused : {i : ℕ} → Due n s m t i → conversion n s m t ≡ refuse-conversion i
   due-refused {i} d = go answer
     where
-      go : Answer → conversion n s m t ≡ refuse i
-      go (Answer.refused j e f) = e ∙ ap refuse (one-due f d)
-      go (Answer.given x y k e c) = absurd (due-converts d c)
+      go : ConversionAnswer → conversion n s m t ≡ refuse-conversion i
+      go (ConversionAnswer.refused j e f) = e ∙ ap refuse-conversion (one-due f d)
+      go (ConversionAnswer.given x y k e c) = absurd (due-converts d c)
 
   pub number-due : (i : ℕ) → 1 ≤ i → (conversion n s m t .number ≡ i) ↔ Due n s m t i
   number-due i h = (back answer, (λ d. ap (λ (x : Conversion). x .number) (due-refused d)))
     where
-      back : Answer → conversion n s m t .number ≡ i → Due n s m t i
-      back (Answer.refused j e d) q = rw (sym (ap (λ (x : Conversion). x .number) e) ∙ q) at d
-      back (Answer.given x y k e c) q = absurd (omega (arith, ap (λ (x : Conversion). x .number) e))
+      back : ConversionAnswer → conversion n s m t .number ≡ i → Due n s m t i
+      back (ConversionAnswer.refused j e d) q = rw (sym (ap (λ (x : Conversion). x .number) e) ∙ q) at d
+      back (ConversionAnswer.given x y k e c) q = absurd (omega (arith, ap (λ (x : Conversion). x .number) e))
 
   pub zero-undue : (conversion n s m t .number ≡ 0) ↔ ((i : ℕ) → Due n s m t i → ⊥)
   zero-undue = ((λ q i d. omega (arith, due-positive d, ap (λ (x : Conversion). x .number) (due-refused d))), back answer)
     where
-      back : Answer → ((i : ℕ) → Due n s m t i → ⊥) → conversion n s m t .number ≡ 0
-      back (Answer.refused j e d) f = absurd (f j d)
-      back (Answer.given x y k e c) f = ap (λ (x : Conversion). x .number) e
+      back : ConversionAnswer → ((i : ℕ) → Due n s m t i → ⊥) → conversion n s m t .number ≡ 0
+      back (ConversionAnswer.refused j e d) f = absurd (f j d)
+      back (ConversionAnswer.given x y k e c) f = ap (λ (x : Conversion). x .number) e
 
   pub gives-converts : (x y : ℕ) (k : ℤ) → (conversion n s m t ≡ gives x y k) ↔ Converts n s m t x y k
   gives-converts x y k = (there answer, back answer)
     where
-      there : Answer → conversion n s m t ≡ gives x y k → Converts n s m t x y k
-      there (Answer.refused j e d) q = absurd (omega (arith, due-positive d, ap (λ (x : Conversion). x .number) (sym e ∙ q)))
-      there (Answer.given x′ y′ k′ e c) q =
+      there : ConversionAnswer → conversion n s m t ≡ gives x y k → Converts n s m t x y k
+      there (ConversionAnswer.refused j e d) q = absurd (omega (arith, due-positive d, ap (λ (x : Conversion). x .number) (sym e ∙ q)))
+      there (ConversionAnswer.given x′ y′ k′ e c) q =
           let p = sym e ∙ q in
           let a : x′ ≡ x = ap (λ (x : Conversion). x .numerator) p in
           let b : y′ ≡ y = ap (λ (x : Conversion). x .denominator) p in
           let l : k′ ≡ k = ap (λ (x : Conversion). x .k .0) p in
           rw (a, b, l) at c
 
-      back : Answer → Converts n s m t x y k → conversion n s m t ≡ gives x y k
-      back (Answer.refused j e d) c = absurd (due-converts d c)
-      back (Answer.given x′ y′ k′ e c′) c =
+      back : ConversionAnswer → Converts n s m t x y k → conversion n s m t ≡ gives x y k
+      back (ConversionAnswer.refused j e d) c = absurd (due-converts d c)
+      back (ConversionAnswer.given x′ y′ k′ e c′) c =
           let p = factor-once (c′ .factor) (c .factor) in
           e ∙ (λ i. gives (p .0 i) (p .1 i) (p .2 i))

@@ -7,11 +7,11 @@ use lib.Dec.{leb, eqb}
 use lib.IntN.{natAbs}
 use borrow.Author.Tests.{leb-true}
 use Rattle.label.specs.Reading.{Reading, reading}
-use Rattle.label.specs.Conversion.{Conversion, refuse, unless, both-known, same-exponents, over, all-whole, fraction-of, small, bounded, converted, conversion}
+use Rattle.label.specs.Conversion.{Conversion, refuse-conversion, unless, both-known, same-exponents, over, all-whole, fraction-of, small, bounded, converted, conversion}
 use Rattle.label.proofs.Basics.{and-left, and-right}
 use Rattle.claims.specs.Converting.{Limits, WithinLimits}
 
-refused-within : (i : ℕ) → Limits (refuse i)
+refused-within : (i : ℕ) → Limits (refuse-conversion i)
 refused-within i = record { numerator = omega arith; denominator = omega arith; k = omega arith }
 
 unless-within : (b : Bool) (i : ℕ) (x : Conversion) → Limits x → Limits (unless b i x)

@@ -18,7 +18,7 @@ use Rattle.label.specs.Symbols.{Symbol, known, unknown}
 use Rattle.label.specs.Limits.{parts-of-one}
 use Rattle.label.specs.Split.{Valued}
 use Rattle.label.specs.Reading.{Term, term, Reading, every, is-known, base-in, total, up-to, all-bases, primes, by-prime, dimensions-of, scale-of, reading-of, reading}
-use Rattle.label.specs.Conversion.{Conversion, refuse, unless, same-whole, same-exponents, over, all-whole, whole, fraction, fraction-of, small, bounded, converted}
+use Rattle.label.specs.Conversion.{Conversion, refuse-conversion, unless, same-whole, same-exponents, over, all-whole, whole-number, fraction, fraction-of, small, bounded, converted}
 use Rattle.label.proofs.Basics.{false-true, and-left, and-right}
 use Rattle.label.proofs.Readings.{Accepted, accepted-reading}
 use Rattle.claims.specs.Converting.{UnknownTerm, base-exponent, prime-exponent, WholeIn, FactorIs, Outside, numerator, denominator, power, Hinders, first-unknown, second-unknown, dimensions, no-fraction, outside, gives}
@@ -166,7 +166,7 @@ module _ (r q : Reading) where
   ratio p = prime-exponent p r -ℤ prime-exponent p q
 
   abbrev given : Conversion
-  given = fraction (whole (record { 0 = ratio 2 })) (whole (record { 0 = ratio 3 })) (whole (record { 0 = ratio 5 })) (whole (record { 0 = ratio 487 }))
+  given = fraction (whole-number (record { 0 = ratio 2 })) (whole-number (record { 0 = ratio 3 })) (whole-number (record { 0 = ratio 5 })) (whole-number (record { 0 = ratio 487 }))
 
   abbrev four-whole : Bool
   four-whole = whole-test (ratio 2) && (whole-test (ratio 3) && (whole-test (ratio 5) && whole-test (ratio 487)))
@@ -234,10 +234,10 @@ module _ (r q : Reading) where
       w = wholes e
 
       go : (p : ℕ) → List·Memᴰ p primes → ((w : ℤ) → WholeIn p r q w → ⊥) → ⊥
-      go p (List·Memᴰ·head x) g = (rw x at g) (whole (record { 0 = ratio 2 })) (is-whole (ratio 2) (w .two))
-      go p (List·Memᴰ·tail (List·Memᴰ·head x)) g = (rw x at g) (whole (record { 0 = ratio 3 })) (is-whole (ratio 3) (w .three))
-      go p (List·Memᴰ·tail (List·Memᴰ·tail (List·Memᴰ·head x))) g = (rw x at g) (whole (record { 0 = ratio 5 })) (is-whole (ratio 5) (w .five))
-      go p (List·Memᴰ·tail (List·Memᴰ·tail (List·Memᴰ·tail (List·Memᴰ·head x)))) g = (rw x at g) (whole (record { 0 = ratio 487 })) (is-whole (ratio 487) (w .other))
+      go p (List·Memᴰ·head x) g = (rw x at g) (whole-number (record { 0 = ratio 2 })) (is-whole (ratio 2) (w .two))
+      go p (List·Memᴰ·tail (List·Memᴰ·head x)) g = (rw x at g) (whole-number (record { 0 = ratio 3 })) (is-whole (ratio 3) (w .three))
+      go p (List·Memᴰ·tail (List·Memᴰ·tail (List·Memᴰ·head x))) g = (rw x at g) (whole-number (record { 0 = ratio 5 })) (is-whole (ratio 5) (w .five))
+      go p (List·Memᴰ·tail (List·Memᴰ·tail (List·Memᴰ·tail (List·Memᴰ·head x)))) g = (rw x at g) (whole-number (record { 0 = ratio 487 })) (is-whole (ratio 487) (w .other))
 
   fail-10 : four-whole ≡ false → Hinders r q 10
   fail-10 e = go (whole-test (ratio 2)) (whole-test (ratio 3)) (whole-test (ratio 5)) (whole-test (ratio 487)) refl refl refl refl e
@@ -254,15 +254,15 @@ module _ (r q : Reading) where
   factor-given e =
       let w = wholes e in
       record {
-        of-2 = whole (record { 0 = ratio 2 });
-        of-3 = whole (record { 0 = ratio 3 });
-        of-5 = whole (record { 0 = ratio 5 });
-        of-487 = whole (record { 0 = ratio 487 });
+        of-2 = whole-number (record { 0 = ratio 2 });
+        of-3 = whole-number (record { 0 = ratio 3 });
+        of-5 = whole-number (record { 0 = ratio 5 });
+        of-487 = whole-number (record { 0 = ratio 487 });
         whole-2 = is-whole (ratio 2) (w .two);
         whole-3 = is-whole (ratio 3) (w .three);
         whole-5 = is-whole (ratio 5) (w .five);
         whole-487 = is-whole (ratio 487) (w .other);
-        exact = fraction-exact (whole (record { 0 = ratio 2 })) (whole (record { 0 = ratio 3 })) (whole (record { 0 = ratio 5 })) (whole (record { 0 = ratio 487 }));
+        exact = fraction-exact (whole-number (record { 0 = ratio 2 })) (whole-number (record { 0 = ratio 3 })) (whole-number (record { 0 = ratio 5 })) (whole-number (record { 0 = ratio 487 }));
       }
 
   -- 11
@@ -301,44 +301,44 @@ module _ (r q : Reading) where
 
   -- WHAT CONVERTING TWO READINGS ANSWERS
 
-  pub record Given (x : Conversion) : Type 0 where
+  pub record GivenFactor (x : Conversion) : Type 0 where
     pub answers : x ≡ gives (x .numerator) (x .denominator) (x .k .0)
     pub clear : (i : ℕ) → Hinders r q i → ⊥
     pub same : (b : ℕ) → b < base-count → base-exponent b r ≡ base-exponent b q
     pub factor : FactorIs r q (x .numerator) (x .denominator) (x .k .0)
     pub within : Within (x .numerator) (x .denominator) (x .k .0)
 
-  pub data Outcome (x : Conversion) : Type 0 where
-    refusing : (i : ℕ) → x ≡ refuse i → Hinders r q i → Before i → Outcome x
-    giving : Given x → Outcome x
+  pub data ConversionOutcome (x : Conversion) : Type 0 where
+    refusing : (i : ℕ) → x ≡ refuse-conversion i → Hinders r q i → Before i → ConversionOutcome x
+    giving : GivenFactor x → ConversionOutcome x
 
   given-answers : given ≡ gives (given .numerator) (given .denominator) (given .k .0)
   unfolding fraction
   given-answers = refl
 
   tested-outcome : (a b c : Bool) → (every is-known (r .terms) && every is-known (q .terms)) ≡ a
-      → same-exponents (dimensions-of (r .terms)) (dimensions-of (q .terms)) ≡ b → four-whole ≡ c → Outcome (tested a b c given)
+      → same-exponents (dimensions-of (r .terms)) (dimensions-of (q .terms)) ≡ b → four-whole ≡ c → ConversionOutcome (tested a b c given)
   unfolding unless
-  tested-outcome false b c x y z = Outcome.refusing 8 refl (fail-8 x) before-first
-  tested-outcome true false c x y z = Outcome.refusing 9 refl (fail-9 y) (before-next before-first (pass-8 x))
-  tested-outcome true true false x y z = Outcome.refusing 10 refl (fail-10 z) (before-next (before-next before-first (pass-8 x)) (pass-9 y))
+  tested-outcome false b c x y z = ConversionOutcome.refusing 8 refl (fail-8 x) before-first
+  tested-outcome true false c x y z = ConversionOutcome.refusing 9 refl (fail-9 y) (before-next before-first (pass-8 x))
+  tested-outcome true true false x y z = ConversionOutcome.refusing 10 refl (fail-10 z) (before-next (before-next before-first (pass-8 x)) (pass-9 y))
   tested-outcome true true true x y z = go (small given) refl
     where
       before : Before 11
       before = before-next (before-next (before-next before-first (pass-8 x)) (pass-9 y)) (pass-10 z)
 
-      go : (d : Bool) → small given ≡ d → Outcome (unless d 11 given)
+      go : (d : Bool) → small given ≡ d → ConversionOutcome (unless d 11 given)
       go true w =
-          Outcome.giving (record {
+          ConversionOutcome.giving (record {
             answers = given-answers;
             clear = before-all (before-next before (within-limits (factor-given z) (within-of given w)));
             same = same-bases y;
             factor = factor-given z;
             within = within-of given w;
           })
-      go false w = Outcome.refusing 11 refl (outside (given .numerator) (given .denominator) (given .k .0) (factor-given z) (outside-of given w)) before
+      go false w = ConversionOutcome.refusing 11 refl (outside (given .numerator) (given .denominator) (given .k .0) (factor-given z) (outside-of given w)) before
 
-  pub converted-outcome : Shaped r → Shaped q → Outcome (converted r q)
+  pub converted-outcome : Shaped r → Shaped q → ConversionOutcome (converted r q)
   converted-outcome u v = rw (converted-is u v) (
       tested-outcome (every is-known (r .terms) && every is-known (q .terms)) (same-exponents (dimensions-of (r .terms)) (dimensions-of (q .terms))) four-whole refl refl refl)
 

@@ -9,7 +9,7 @@ use lib.IntN.{ℤ, pos, negsuc, negℤ, _*ℤ_, natAbs, pos-ne-negsuc}
 use borrow.Author.Tests.{eqb-true, eqb-false}
 use Rattle.label.specs.Limits.{parts-of-one}
 use Rattle.label.specs.Reading.{exponent}
-use Rattle.label.specs.Conversion.{whole}
+use Rattle.label.specs.Conversion.{whole-number}
 use Rattle.claims.specs.Converting.{Whole}
 
 pub neg-size : (z : ℤ) → natAbs (negℤ z) ≡ natAbs z
@@ -25,7 +25,7 @@ pub not-whole : (z : ℤ) → eqb (natAbs z % parts-of-one) 0 ≡ false → (w :
 not-whole z t w h = eqb-false (natAbs z % parts-of-one) 0 t (
     ap (λ (x : ℤ). natAbs x % parts-of-one) (sym (h .is)) ∙ ap (λ (x : ℕ). x % parts-of-one) (ones-size w) ∙ mul-mod-left (natAbs w) parts-of-one)
 
-pub is-whole : (z : ℤ) → eqb (natAbs z % parts-of-one) 0 ≡ true → Whole z (whole (exponent z))
+pub is-whole : (z : ℤ) → eqb (natAbs z % parts-of-one) 0 ≡ true → Whole z (whole-number (exponent z))
 is-whole (pos n) t = record { is = ap pos (omega (arith, div-add-mod' n parts-of-one, eqb-true (n % parts-of-one) 0 t)) }
 is-whole (negsuc n) t = record { is = go (suc n / parts-of-one) (omega (arith, div-add-mod' (suc n) parts-of-one, eqb-true (suc n % parts-of-one) 0 t)) }
   where

@@ -12,11 +12,11 @@ use lib.Seq.{getD-set-same, getD-set-other, getD-at}
 use Rattle.label.specs.Choice.{pick}
 use Rattle.label.specs.Reading.{term}
 use Rattle.label.specs.Reading as spec
-use Rattle.label.specs.Symbols.{Symbol as Meant, symbol, known, unknown}
+use Rattle.label.specs.Symbols.{Symbol, symbol, known, unknown}
 use Rattle.label.specs.Ranges.{between}
 use Rattle.label.proofs.Between.{length-between}
-use Rattle.symbols.specs.declared.Symbol.{Symbol}
-use Rattle.symbols.specs.Views.{place, symbol-in, Bounded, LettersAt}
+use Rattle.symbols.specs.declared.SymbolAt.{SymbolAt}
+use Rattle.symbols.specs.Views.{place, symbol-in, BoundedSymbol, LettersAt}
 use Rattle.descent.specs.Terms.{Lent, count, term-at, terms, placed-in, InLabel, AllIn}
 use Rattle.descent.specs.Terms as held
 use Rattle.descent.proofs.TermSteps.{terms-next}
@@ -45,7 +45,7 @@ module _ (x : List ℕ) (i p u a z : ℕ) where
     end = four-other (96 + j) (λ e. omega arith) (λ e. omega arith) (λ e. omega arith) (λ e. omega arith);
   }
 
-pub noted₁ : {x : List ℕ} {i u : ℕ} (y : Symbol) → length x ≡ 128 → i < 32 → u ≡ unit-code y
+pub noted₁ : {x : List ℕ} {i u : ℕ} (y : SymbolAt) → length x ≡ 128 → i < 32 → u ≡ unit-code y
     → Noted x i y (four x i (y .prefix) u (y .start) (y .end))
 noted₁ {x} {i} {u} y l h q = let p = y .prefix in let a = y .start in let z = y .end in record {
   room = simp length-set refl;
@@ -69,7 +69,7 @@ noted₁ {x} {i} {u} y l h q = let p = y .prefix in let a = y .start in let z = 
 }
 
 -- a symbol is what is noted of it
-noted-symbol : {x : List ℕ} {i : ℕ} (y : Symbol) → NotedAt x i y → (s : List ℕ) → symbol-at s x i ≡ symbol-in s y
+noted-symbol : {x : List ℕ} {i : ℕ} (y : SymbolAt) → NotedAt x i y → (s : List ℕ) → symbol-at s x i ≡ symbol-in s y
 unfolding symbol-at symbol-in by-code
 noted-symbol y w s = rw (w .prefix, w .unit, w .start, w .end) (go (y .known))
   where
@@ -144,7 +144,7 @@ nth-term s t x (suc n) i d h = go (nth-term s t x n i d) (decLt i n)
     go f (yes l) = List·getD-append (terms-in s t x n) (term-in s t x n ∷ []) d i (omega (arith, terms-length s t x n)) ∙ f l
     go f (no l) = let z : i ≡ n = omega arith in rw z (getD-at (terms-in s t x n) (term-in s t x n) [] d n (terms-length s t x n))
 
-named-term : (n : ℕ) {a z : ℕ} {s : List ℕ} {e : ℤ} {w : Meant} → InLabel s (held.term a z e) → w ≡ symbol n (between s a z)
+named-term : (n : ℕ) {a z : ℕ} {s : List ℕ} {e : ℤ} {w : Symbol} → InLabel s (held.term a z e) → w ≡ symbol n (between s a z)
     → record { symbol = w; exponent = spec.exponent e; start = a; size = z - a } ≡ term n (length s) (placed-in s (held.term a z e))
 unfolding term
 named-term n {a} {z} {s} v q = rw (q, length-between s a z (v .within), back)
@@ -172,7 +172,7 @@ module _ {n : ℕ} {s : List ℕ} {t : Lent} {i : ℕ} {x : List ℕ} (w : Named
   pub naming-few : i < count t → i < 32
   naming-few h = omega (arith, w .given .few)
 
-  module _ {y : Symbol} (h : i < count t) (b : Bounded (getD (t .places) i 0) (getD (t .places) (32 + i) 0) y) where
+  module _ {y : SymbolAt} (h : i < count t) (b : BoundedSymbol (getD (t .places) i 0) (getD (t .places) (32 + i) 0) y) where
     pub naming-short : Short y
     naming-short = let v = naming-in h in record {
       row = b .row;

@@ -10,13 +10,13 @@ use Rattle.label.specs.declared.Tens.{Tens}
 use Rattle.label.specs.Reading.{exponent, dimensions-of, scale-of}
 use Rattle.descent.specs.Terms.{lent}
 use Rattle.content.specs.Views.{terms-in, scale-in}
-use Rattle.content.specs.Sums.{zeros}
+use Rattle.content.specs.Sums.{zero-sums}
 use Rattle.content.specs.Totals.{AddedUp}
 
-pub room-of : {xs : List ℤ} {n : ℕ} → xs ≡ zeros 36 → n ≤ 36 → n ≤ length xs
+pub room-of : {xs : List ℤ} {n : ℕ} → xs ≡ zero-sums 36 → n ≤ 36 → n ≤ length xs
 room-of e h = rw e h
 
-module _ (xs ds : List ℤ) (e : xs ≡ zeros 36) (l : length ds ≡ length (take 32 xs)) where
+module _ (xs ds : List ℤ) (e : xs ≡ zero-sums 36) (l : length ds ≡ length (take 32 xs)) where
   bases-room : length ds ≡ 32
   bases-room = l ∙ ap (λ (zs : List ℤ). length (take 32 zs)) e
 
@@ -24,13 +24,13 @@ module _ (xs ds : List ℤ) (e : xs ≡ zeros 36) (l : length ds ≡ length (tak
   abbrev halfway : List ℤ
   halfway = ds ++ drop 32 xs
 
-  rest-is : drop 32 halfway ≡ zeros 4
+  rest-is : drop 32 halfway ≡ zero-sums 4
   rest-is = drop-at ds (drop 32 xs) 32 bases-room ∙ ap (λ (zs : List ℤ). drop 32 zs) e
 
   pub halfway-room : 36 ≤ length halfway
   halfway-room = let r : length (drop 32 xs) ≡ 4 = ap (λ (zs : List ℤ). length (drop 32 zs)) e in omega (arith, length-append ds (drop 32 xs), bases-room, r)
 
-  pub primes-start : take 4 (drop 32 halfway) ≡ zeros 4
+  pub primes-start : take 4 (drop 32 halfway) ≡ zero-sums 4
   primes-start = ap (λ (zs : List ℤ). take 4 zs) rest-is
 
   module _ (cs : List ℤ) where

@@ -19,7 +19,7 @@ use Rattle.label.specs.Choice.{pick}
 use Rattle.label.specs.Units.{BasePower}
 use Rattle.symbols.specs.Slots.{adds}
 use Rattle.symbols.proofs.UnitLaws.{four-adds, held}
-use Rattle.content.specs.Sums.{Within, Added}
+use Rattle.content.specs.Sums.{SumsWithin, Added}
 use Rattle.content.proofs.Integers.{abs-mag, wide-fits, times-sum}
 
 -- what the first k of some powers add to place b
@@ -31,7 +31,7 @@ first-adds f (suc k) b = first-adds f k b +ℤ adds b (f k)
 pub record Gathered (f : ℕ → BasePower) (k : ℕ) (e : Exponent) (xs ys : List ℤ) : Type 0 where
   pub room : length ys ≡ length xs
   pub added : (b : ℕ) → b < length xs → getD ys b (pos 0) ≡ getD xs b (pos 0) +ℤ first-adds f k b *ℤ e .0
-  pub growth : (m : ℕ) → Within m xs → Within (m + k * 2 ^ 37) ys
+  pub growth : (m : ℕ) → SumsWithin m xs → SumsWithin (m + k * 2 ^ 37) ys
 
 -- ONE POWER MORE
 
@@ -52,7 +52,7 @@ none-gathered f e xs = record {
   growth = λ m w. record { within = λ b. omega (arith, w .within b) };
 }
 
-module _ {f : ℕ → BasePower} {k : ℕ} {e : Exponent} {xs ys : List ℤ} (g : Gathered f k e xs ys) (w : Within (2 ^ 61) xs) (h : k < 4) where
+module _ {f : ℕ → BasePower} {k : ℕ} {e : Exponent} {xs ys : List ℤ} (g : Gathered f k e xs ys) (w : SumsWithin (2 ^ 61) xs) (h : k < 4) where
   -- a sum is small enough to add to
   sum-small : (p : ℕ) → natAbs (getD ys p (pos 0)) ≤ 2 ^ 62
   sum-small p = omega (arith, g .growth (2 ^ 61) w .within p)
@@ -96,7 +96,7 @@ module _ {f : ℕ → BasePower} {k : ℕ} {e : Exponent} {xs ys : List ℤ} (g 
           ∙ ap (λ (z : ℤ). getD xs b (pos 0) +ℤ z) (sym (times-sum (first-adds f k b) (f k .power) (e .0)))
       at-place b l false t = g .added b l ∙ ap (λ (z : ℤ). getD xs b (pos 0) +ℤ z *ℤ e .0) (sym (+ℤ-idr (first-adds f k b)))
 
-      place-within : (m b : ℕ) → Within (m + k * 2 ^ 37) ys → (x : Bool) → natAbs (pick x r (getD ys b (pos 0))) ≤ m + suc k * 2 ^ 37
+      place-within : (m b : ℕ) → SumsWithin (m + k * 2 ^ 37) ys → (x : Bool) → natAbs (pick x r (getD ys b (pos 0))) ≤ m + suc k * 2 ^ 37
       place-within m b v true = omega (arith, size, v .within p)
       place-within m b v false = omega (arith, v .within b)
 

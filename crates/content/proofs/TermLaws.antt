@@ -9,7 +9,7 @@ use Rattle.label.specs.Ranges.{between}
 use Rattle.label.specs.Reading as spec
 use Rattle.label.specs.Reading.{every, is-known, is-lawful, is-recommended, total}
 use Rattle.label.specs.Symbols.{Symbol, known, unknown}
-use Rattle.symbols.specs.declared.Symbol as code
+use Rattle.symbols.specs.declared.SymbolAt as code
 use Rattle.symbols.specs.Views.{place, symbol-in}
 use Rattle.descent.specs.Terms.{Lent}
 use Rattle.content.specs.declared.verdicts.Verdicts.{Verdicts}
@@ -34,7 +34,7 @@ every-more p (x ∷ ts) t =
     ap (λ (b : Bool). p (x .symbol) && b) (every-more p ts t) ∙ sym (and-assoc (p (x .symbol)) (every p ts) (p (t .symbol)))
 
 -- a symbol's flag tells whether it is known
-known-told : (s : List ℕ) (x : code.Symbol) → x .known ≡ is-known (symbol-in s x)
+known-told : (s : List ℕ) (x : code.SymbolAt) → x .known ≡ is-known (symbol-in s x)
 unfolding symbol-in is-known
 known-told s x = go (x .known)
   where
@@ -42,7 +42,7 @@ known-told s x = go (x .known)
     go true = refl
     go false = refl
 
-module _ (s : List ℕ) (t : Lent) (x : List ℕ) (i : ℕ) (y : code.Symbol) (told : symbol-in s y ≡ symbol-at s x i) where
+module _ (s : List ℕ) (t : Lent) (x : List ℕ) (i : ℕ) (y : code.SymbolAt) (told : symbol-in s y ≡ symbol-at s x i) where
   every-one-more : (p : Symbol → Bool) → (every p (terms-in s t x i) && p (symbol-in s y)) ≡ every p (terms-in s t x (i + 1))
   every-one-more p = rw told (sym (every-more p (terms-in s t x i) (term-in s t x i)) ∙ ap (every p) (sym (terms-more s t x i)))
 

@@ -16,10 +16,10 @@ use Rattle.label.specs.Reading.{exponent, sum, times, one, base-in, prime-in, t
 use Rattle.label.specs.Symbols.{Symbol}
 use Rattle.symbols.specs.Slots.{prime-at}
 use Rattle.symbols.specs.Views.{symbol-in}
-use Rattle.symbols.specs.declared.Symbol.{Symbol as Coded}
+use Rattle.symbols.specs.declared.SymbolAt.{SymbolAt}
 use Rattle.descent.specs.Terms.{Lent}
 use Rattle.content.specs.Views.{symbol-at, term-in, terms-in, scale-in}
-use Rattle.content.specs.Sums.{Within, Summable, Added, zeros}
+use Rattle.content.specs.Sums.{SumsWithin, Summable, Added, zero-sums}
 use Rattle.content.proofs.Integers.{wide-fits}
 use Rattle.content.proofs.Listing.{listed}
 use Rattle.content.proofs.Naming.{terms-more}
@@ -34,7 +34,7 @@ pub no-totals : (f : ℕ → Symbol → ℤ) (xs : List ℤ) → Totals f [] xs 
 unfolding total
 no-totals f xs = record { room = refl; sums = λ b h. sym (+ℤ-idr (getD xs b (pos 0))) }
 
-module _ (s : List ℕ) (t : Lent) (x : List ℕ) (i : ℕ) (y : Coded) (told : symbol-in s y ≡ symbol-at s x i) (e : Exponent)
+module _ (s : List ℕ) (t : Lent) (x : List ℕ) (i : ℕ) (y : SymbolAt) (told : symbol-in s y ≡ symbol-at s x i) (e : Exponent)
     (same : e .0 ≡ getD (t .exponents) i (pos 0)) where
   pub one-total : {f : ℕ → Symbol → ℤ} {xs ys zs : List ℤ} → Totals f (terms-in s t x i) xs ys
       → Added (λ b. f b (symbol-in s y)) e ys zs → Totals f (terms-in s t x (i + 1)) xs zs
@@ -54,12 +54,12 @@ module _ (s : List ℕ) (t : Lent) (x : List ℕ) (i : ℕ) (y : Coded) (told : 
 -- WHERE THE SUMS START
 
 -- the dimensions start at 0
-zero-at : (n b : ℕ) → getD (zeros n) b (pos 0) ≡ pos 0
+zero-at : (n b : ℕ) → getD (zero-sums n) b (pos 0) ≡ pos 0
 zero-at zero b = refl
 zero-at (suc n) zero = refl
 zero-at (suc n) (suc b) = zero-at n b
 
-pub zeros-within : (n m : ℕ) → Within m (zeros n)
+pub zeros-within : (n m : ℕ) → SumsWithin m (zero-sums n)
 zeros-within n m = record { within = λ b. rw (zero-at n b) (omega arith) }
 
 -- the scale starts at the factor's tens: a number for 2 and for 5, and nothing for 3 and for 487
@@ -70,7 +70,7 @@ module _ (r : ℤ) (small : natAbs r ≤ 2 ^ 37) where
   ten-held : toZ w64 (ofZ w64 r) ≡ r
   ten-held = toZ-ofZ (wide-fits (omega arith))
 
-  pub tens-within : Within (2 ^ 37) (tens (toZ w64 (ofZ w64 r)))
+  pub tens-within : SumsWithin (2 ^ 37) (tens (toZ w64 (ofZ w64 r)))
   tens-within = let h : natAbs (toZ w64 (ofZ w64 r)) ≤ 2 ^ 37 = rw ten-held (omega arith) in record { within = go (toZ w64 (ofZ w64 r)) h }
     where
       go : (z : ℤ) → natAbs z ≤ 2 ^ 37 → (b : ℕ) → natAbs (getD (tens z) b (pos 0)) ≤ 2 ^ 37
@@ -98,16 +98,16 @@ module _ (r : ℤ) (small : natAbs r ≤ 2 ^ 37) where
 abbrev pub bound : ℕ → ℕ
 bound i = 2 ^ 37 + i * 2 ^ 39
 
-pub summable : {n : ℕ} (i : ℕ) {ys : List ℤ} → length ys ≡ n → i < 32 → Within (bound i) ys → Summable n ys
+pub summable : {n : ℕ} (i : ℕ) {ys : List ℤ} → length ys ≡ n → i < 32 → SumsWithin (bound i) ys → Summable n ys
 summable i e h w = record { room = e; small = record { within = λ b. omega (arith, w .within b) } }
 
-pub bound-more : (i : ℕ) {power : ℕ → ℤ} {e : Exponent} {ys zs : List ℤ} → Within (bound i) ys → Added power e ys zs → Within (bound (i + 1)) zs
+pub bound-more : (i : ℕ) {power : ℕ → ℤ} {e : Exponent} {ys zs : List ℤ} → SumsWithin (bound i) ys → Added power e ys zs → SumsWithin (bound (i + 1)) zs
 bound-more i w a = record { within = λ b. omega (arith, a .growth (bound i) w .within b) }
 
 -- DIMENSIONS AND SCALE
 
 -- the dimensions, from sums that started at 0
-pub dimensions-are : (ts : List spec.Term) (ys : List ℤ) → Totals base-in ts (zeros base-count) ys → map exponent ys ≡ dimensions-of ts
+pub dimensions-are : (ts : List spec.Term) (ys : List ℤ) → Totals base-in ts (zero-sums base-count) ys → map exponent ys ≡ dimensions-of ts
 unfolding dimensions-of
 dimensions-are ts ys v =
     listed base-count (λ b. total (base-in b) ts) ys (v .room ∙ length-replicate base-count (pos 0))

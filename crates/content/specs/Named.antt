@@ -5,23 +5,23 @@ use mathlib.Core.List.{List, map}
 use lib.ListN.{length, getD}
 use Rattle.label.specs.Choice.{pick}
 use Rattle.label.specs.Reading.{term}
-use Rattle.symbols.specs.declared.Symbol.{Symbol}
+use Rattle.symbols.specs.declared.SymbolAt.{SymbolAt}
 use Rattle.symbols.specs.Views.{LettersAt}
 use Rattle.descent.specs.Terms.{Lent, count, terms, placed-in, AllIn}
 use Rattle.content.specs.Views.{terms-in}
 
 -- one more than the row of a known unit; 0 for an unknown one
-abbrev pub unit-code : Symbol → ℕ
+abbrev pub unit-code : SymbolAt → ℕ
 unit-code x = pick (x .known) (suc (x .unit)) 0
 
 -- what is noted of a symbol fits bytes
-pub record Short (x : Symbol) : Type 0 where
+pub record Short (x : SymbolAt) : Type 0 where
   pub row : x .unit < 255
   pub start : x .start < 256
   pub end : x .end < 256
 
 -- the symbol y is noted at i in the names x
-pub record NotedAt (x : List ℕ) (i : ℕ) (y : Symbol) : Type 0 where
+pub record NotedAt (x : List ℕ) (i : ℕ) (y : SymbolAt) : Type 0 where
   pub prefix : getD x i 0 ≡ y .prefix
   pub unit : getD x (32 + i) 0 ≡ unit-code y
   pub start : getD x (64 + i) 0 ≡ y .start
@@ -35,7 +35,7 @@ pub record SameAt (x y : List ℕ) (i : ℕ) : Type 0 where
   pub end : getD y (96 + i) 0 ≡ getD x (96 + i) 0
 
 -- from the names x to z, the symbol y is noted at i, and those before it stay
-pub record Noted (x : List ℕ) (i : ℕ) (y : Symbol) (z : List ℕ) : Type 0 where
+pub record Noted (x : List ℕ) (i : ℕ) (y : SymbolAt) (z : List ℕ) : Type 0 where
   pub room : length z ≡ length x
   pub noted : NotedAt z i y
   pub stay : (j : ℕ) → j < i → SameAt x z j

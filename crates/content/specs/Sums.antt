@@ -7,20 +7,20 @@ use lib.ListN.{length, getD, replicate}
 use Rattle.label.specs.declared.Exponent.{Exponent}
 
 -- n sums of nothing
-abbrev pub zeros : ℕ → List ℤ
-zeros n = replicate n (pos 0)
+abbrev pub zero-sums : ℕ → List ℤ
+zero-sums n = replicate n (pos 0)
 
 -- every sum is at most m, up or down
-pub record Within (m : ℕ) (xs : List ℤ) : Type 0 where
+pub record SumsWithin (m : ℕ) (xs : List ℤ) : Type 0 where
   pub within : (b : ℕ) → natAbs (getD xs b (pos 0)) ≤ m
 
 -- n sums, each small enough for one term more
 pub record Summable (n : ℕ) (xs : List ℤ) : Type 0 where
   pub room : length xs ≡ n
-  pub small : Within (2 ^ 61) xs
+  pub small : SumsWithin (2 ^ 61) xs
 
 -- to the sum of each place b its power is added, times the exponent; no sum grows by more than 2 to the 39
 pub record Added (power : ℕ → ℤ) (e : Exponent) (xs ys : List ℤ) : Type 0 where
   pub room : length ys ≡ length xs
   pub added : (b : ℕ) → b < length xs → getD ys b (pos 0) ≡ getD xs b (pos 0) +ℤ power b *ℤ e .0
-  pub growth : (m : ℕ) → Within m xs → Within (m + 2 ^ 39) ys
+  pub growth : (m : ℕ) → SumsWithin m xs → SumsWithin (m + 2 ^ 39) ys

@@ -1,8 +1,8 @@
 // The dimensions of a reading: the exponent of each base, summed over the terms.
 use crate::named::symbol_at;
-use crate::sums::plus;
+use crate::sums::add_power;
 use label::Exponent;
-use symbols::Symbol;
+use symbols::SymbolAt;
 use symbols::properties::slot_base;
 use symbols::properties::slot_power;
 use symbols::tables::unit_bases;
@@ -15,10 +15,10 @@ ghost use Rattle.symbols.specs.Columns.{unit-bases, unit-powers};
 ghost use Rattle.symbols.specs.Views.{symbol-in};
 ghost use Rattle.descent.specs.Terms.{lent};
 ghost use Rattle.content.specs.Views.{terms-in};
-ghost use Rattle.content.specs.Sums.{Summable, Added, zeros};
+ghost use Rattle.content.specs.Sums.{Summable, Added, zero-sums};
 
 // Adds a term to the sums: to the sum of each base, the base's power in the term's unit times the term's exponent.
-fn add_bases(bases: &[u8], powers: &[i8], x: Symbol, e: Exponent, sums: &mut [i64])
+fn add_bases(bases: &[u8], powers: &[i8], x: SymbolAt, e: Exponent, sums: &mut [i64])
     requires { ⌜ (now bases ≡ unit-bases) × ((now powers ≡ unit-powers) × Summable 32 (now sums)) ⌝ }
     ensures { λ _. ⌜ ((s : List ℕ) →
         Added (λ b. base-in b (symbol-in s x)) e (now (sums .entry)) (now (sums .exit))) ⌝ }
@@ -28,7 +28,7 @@ fn add_bases(bases: &[u8], powers: &[i8], x: Symbol, e: Exponent, sums: &mut [i6
         let power = slot_power(powers, x, slot);
         if power != 0 {
             let base = slot_base(bases, x, slot) as usize;
-            sums[base] = plus(sums[base], power, e);
+            sums[base] = add_power(sums[base], power, e);
         }
         slot += 1;
     }
@@ -36,7 +36,7 @@ fn add_bases(bases: &[u8], powers: &[i8], x: Symbol, e: Exponent, sums: &mut [i6
 
 // The exponent of each base, by its number, in the first `count` terms, in sums that start at 0.
 pub fn dimensions(count: usize, exponents: &[i32; 32], names: &[u8; 128], sums: &mut [i64])
-    requires { ⌜ (count ≤ 32) × (now sums ≡ zeros 32) ⌝ }
+    requires { ⌜ (count ≤ 32) × (now sums ≡ zero-sums 32) ⌝ }
     ensures { λ _. ⌜ ((s p : List ℕ) → map exponent (now (sums .exit))
         ≡ dimensions-of (terms-in s (lent p (now (exponents .entry))) (now (names .entry)) count)) ⌝ }
 {

@@ -2,7 +2,7 @@
 // place in the table, or 0; their units at 32 to 63, each as one more than its row, or 0 for an unknown one; and where the letters of an
 // unknown unit start and end in the label, at 64 to 95 and at 96 to 127, both 0 for a known one.
 use symbols::Span;
-use symbols::Symbol;
+use symbols::SymbolAt;
 use symbols::lookup::symbol;
 use symbols::tables::name_codes;
 use symbols::tables::name_keys;
@@ -18,7 +18,7 @@ ghost use Rattle.content.specs.Named.{Short, Noted, Nameable, AllNamed};
 ghost use Rattle.content.specs.Named as spec;
 
 // One more than the row of a known unit; 0 for an unknown one.
-fn unit_code(x: Symbol) -> u8
+fn unit_code(x: SymbolAt) -> u8
     requires { ⌜ x .unit < 255 ⌝ }
     ensures { λ r. ⌜ r ≡ spec.unit-code x ⌝ }
 {
@@ -29,7 +29,7 @@ fn unit_code(x: Symbol) -> u8
 }
 
 // Notes what the spelling of term `i` stands for.
-fn note(names: &mut [u8; 128], i: usize, x: Symbol)
+fn note(names: &mut [u8; 128], i: usize, x: SymbolAt)
     requires { ⌜ (length (now names) ≡ 128) × ((i < 32) × Short x) ⌝ }
     ensures { λ _. ⌜ Noted (now (names .entry)) i x (now (names .exit)) ⌝ }
 {
@@ -48,7 +48,7 @@ pub fn number_at(names: &[u8; 128], i: usize) -> u8
 }
 
 // What the spelling of term `i` stands for.
-pub fn symbol_at(names: &[u8; 128], i: usize) -> Symbol
+pub fn symbol_at(names: &[u8; 128], i: usize) -> SymbolAt
     requires { ⌜ i < 32 ⌝ }
     ensures { λ r. ⌜ ((s : List ℕ) → symbol-in s r ≡ symbol-at s (now (names .entry)) i) ⌝ }
 {
@@ -57,7 +57,7 @@ pub fn symbol_at(names: &[u8; 128], i: usize) -> Symbol
     let start = number_at(names, 64 + i) as usize;
     let end = number_at(names, 96 + i) as usize;
     if code == 0 {
-        return Symbol {
+        return SymbolAt {
             known: false,
             prefix,
             unit: 0,
@@ -65,7 +65,7 @@ pub fn symbol_at(names: &[u8; 128], i: usize) -> Symbol
             end,
         };
     }
-    Symbol {
+    SymbolAt {
         known: true,
         prefix,
         unit: code - 1,

@@ -1,9 +1,9 @@
 // The scale of a reading: the exponents of the primes 2, 3, 5 and 487, from the factor, the prefixes and the sizes.
 use crate::named::symbol_at;
-use crate::sums::plus;
+use crate::sums::add_power;
 use label::Exponent;
 use label::Tens;
-use symbols::Symbol;
+use symbols::SymbolAt;
 use symbols::properties::prime_power;
 use symbols::tables::prefix_powers;
 use symbols::tables::unit_primes;
@@ -18,10 +18,10 @@ ghost use Rattle.symbols.specs.Slots.{prime-at};
 ghost use Rattle.symbols.specs.Views.{symbol-in};
 ghost use Rattle.descent.specs.Terms.{lent};
 ghost use Rattle.content.specs.Views.{terms-in, scale-in};
-ghost use Rattle.content.specs.Sums.{Summable, Added, zeros};
+ghost use Rattle.content.specs.Sums.{Summable, Added, zero-sums};
 
 // Adds a term to the sums: to the sum of each prime, the prime's power in the term's symbol times the term's exponent.
-fn add_primes(prefixes: &[i8], primes: &[i8], x: Symbol, e: Exponent, sums: &mut [i64])
+fn add_primes(prefixes: &[i8], primes: &[i8], x: SymbolAt, e: Exponent, sums: &mut [i64])
     requires { ⌜ (now prefixes ≡ prefix-powers) × ((now primes ≡ unit-primes) × Summable 4 (now sums)) ⌝ }
     ensures { λ _. ⌜ ((s : List ℕ) →
         Added (λ b. prime-in (prime-at b) (symbol-in s x)) e (now (sums .entry)) (now (sums .exit))) ⌝ }
@@ -30,7 +30,7 @@ fn add_primes(prefixes: &[i8], primes: &[i8], x: Symbol, e: Exponent, sums: &mut
     while prime < 4 {
         let power = prime_power(prefixes, primes, x, prime);
         if power != 0 {
-            sums[prime] = plus(sums[prime], power, e);
+            sums[prime] = add_power(sums[prime], power, e);
         }
         prime += 1;
     }
@@ -45,7 +45,7 @@ fn in_sixtieths(k: Tens) -> i64
 
 // The exponent of each prime in the factor, ten to the power `k`, and the first `count` terms, in sums that start at 0.
 pub fn scale(k: Tens, count: usize, exponents: &[i32; 32], names: &[u8; 128], sums: &mut [i64])
-    requires { ⌜ (count ≤ 32) × (now sums ≡ zeros 4) ⌝ }
+    requires { ⌜ (count ≤ 32) × (now sums ≡ zero-sums 4) ⌝ }
     ensures { λ _. ⌜ (length (now (sums .exit)) ≡ 4) × ((s p : List ℕ) → scale-in (now (sums .exit))
         ≡ scale-of k (terms-in s (lent p (now (exponents .entry))) (now (names .entry)) count)) ⌝ }
 {

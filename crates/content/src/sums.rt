@@ -5,7 +5,7 @@ ghost use Prim.Native.Nat.{_+_, _≤_, _^_};
 ghost use lib.IntN.{natAbs, _+ℤ_, _*ℤ_};
 
 // The sum with a power times an exponent added. It grows by at most 2 to the 37.
-pub fn plus(sum: i64, power: i32, exponent: Exponent) -> i64
+pub fn add_power(sum: i64, power: i32, exponent: Exponent) -> i64
     requires { ⌜ (natAbs sum ≤ 2 ^ 62) × (natAbs power ≤ 60) ⌝ }
     ensures { λ r. ⌜ (r ≡ sum +ℤ power *ℤ exponent .0) × (natAbs r ≤ natAbs sum + 2 ^ 37) ⌝ }
 {

@@ -10,12 +10,12 @@ use lib.Dec.{leb, eqb}
 use lib.IntN.{ℤ}
 use borrow.Author.Tests.{lt-leb, ne-eqb, leb-true}
 use Rattle.label.specs.Reading.{exponent, Reading, reading}
-use Rattle.label.specs.Conversion.{refuse, unless, both-known, same-exponents, over, all-whole, fraction-of, small, bounded, converted, conversion}
+use Rattle.label.specs.Conversion.{refuse-conversion, unless, both-known, same-exponents, over, all-whole, fraction-of, small, bounded, converted, conversion}
 use Rattle.label.specs.Conversion as spec
 use Rattle.label.proofs.Basics.{and-left, and-right}
 use Rattle.content.specs.Views.{scale-in}
 use Rattle.conversion.specs.declared.answer.Conversion.{Conversion}
-use Rattle.conversion.specs.declared.fraction.Ratio.{Ratio}
+use Rattle.conversion.specs.declared.fraction.ScaleRatio.{ScaleRatio}
 use Rattle.conversion.specs.Powers.{Held}
 use Rattle.conversion.specs.Answers.{conversion-in, Sums, ReadSums, ratio-in, Nearly}
 use Rattle.reading.specs.declared.read.Answer.{Answer}
@@ -51,7 +51,7 @@ bounded-is {y} {x} w = go (small (conversion-in x)) refl ∙ ap (λ (b : Bool). 
 
 -- TWO READINGS
 
-pub converted-is : (ratio : Ratio) (x : Conversion) {ds es cs fs : List ℤ} {a b : Reading} {known same whole tiny : Bool} {z₁ z₂ z₃ z₄ : spec.Conversion}
+pub converted-is : (ratio : ScaleRatio) (x : Conversion) {ds es cs fs : List ℤ} {a b : Reading} {known same whole tiny : Bool} {z₁ z₂ z₃ z₄ : spec.Conversion}
     → known ≡ both-known a b → Sums ds cs a → Sums es fs b → same ≡ same-exponents (map exponent ds) (map exponent es)
     → ratio-in ratio ≡ over (scale-in cs) (scale-in fs) → whole ≡ all-whole (ratio-in ratio) → Nearly (fraction-of (ratio-in ratio)) x
     → tiny ≡ small (conversion-in x) → z₁ ≡ unless tiny 11 (conversion-in x) → z₂ ≡ unless whole 10 z₁ → z₃ ≡ unless same 9 z₂ → z₄ ≡ unless known 8 z₃
@@ -67,7 +67,7 @@ converted-is ratio x {ds} {es} {cs} {fs} {a} {b} k u v s r w n t e₁ e₂ e₃ 
 -- TWO LABELS
 
 module _ {n : ℕ} {s : List ℕ} {ds cs : List ℤ} {a : Answer} (w : ReadSums n s ds cs a) (m : ℕ) (t : List ℕ) where
-  pub first-refused : a .number ≢ 0 → {z : spec.Conversion} → z ≡ refuse (a .number) → z ≡ conversion n s m t
+  pub first-refused : a .number ≢ 0 → {z : spec.Conversion} → z ≡ refuse-conversion (a .number) → z ≡ conversion n s m t
   unfolding conversion unless
   first-refused h e = e ∙ rw (← w .number, ne-eqb (a .number) 0 h)
 
@@ -78,7 +78,7 @@ module _ {n : ℕ} {s : List ℕ} {ds cs : List ℤ} {a : Answer} (w : ReadSums 
     second-asked = ap (λ (x : ℕ). unless (eqb x 0) x (unless (eqb (reading m t .number) 0) (reading m t .number) (converted (reading n s) (reading m t)))) (sym (w .number) ∙ zero)
 
     module _ {es fs : List ℤ} {b : Answer} (v : ReadSums m t es fs b) where
-      pub second-refused : b .number ≢ 0 → {z : spec.Conversion} → z ≡ refuse (b .number) → z ≡ conversion n s m t
+      pub second-refused : b .number ≢ 0 → {z : spec.Conversion} → z ≡ refuse-conversion (b .number) → z ≡ conversion n s m t
       unfolding unless
       second-refused h e = e ∙ sym (second-asked ∙ rw (← v .number, ne-eqb (b .number) 0 h))
 

@@ -10,12 +10,12 @@ use mir.Syntax.{w64}
 use mir.Val.{toZ, ofZ}
 use mir.Facts.{toZ-ofZ}
 use Rattle.label.specs.Reading.{exponent}
-use Rattle.label.specs.Conversion.{whole, above, below, all-whole, fraction, fraction-of}
+use Rattle.label.specs.Conversion.{whole-number, above, below, all-whole, fraction, fraction-of}
 use Rattle.content.proofs.Integers.{wide-fits}
 use Rattle.conversion.specs.declared.answer.Conversion.{Conversion}
-use Rattle.conversion.specs.declared.fraction.Ratio.{Ratio}
+use Rattle.conversion.specs.declared.fraction.ScaleRatio.{ScaleRatio}
 use Rattle.conversion.specs.Powers.{up, down, Held}
-use Rattle.conversion.specs.Answers.{ratio-in, Small, Nearly}
+use Rattle.conversion.specs.Answers.{ratio-in, SmallRatio, Nearly}
 
 -- a small number is identified by its bits
 bits : (z : ℤ) → natAbs z < 2 ^ 31 → toZ w64 (ofZ w64 z) ≡ z
@@ -23,7 +23,7 @@ bits z h = toZ-ofZ (wide-fits (omega arith))
 
 -- ALL FOUR WHOLE
 
-module _ (r : Ratio) (h : Small r) {a b c d v w x : Bool} where
+module _ (r : ScaleRatio) (h : SmallRatio r) {a b c d v w x : Bool} where
   pub all-whole-is : a ≡ eqb (natAbs (toZ w64 (ofZ w64 (r .twos))) % 60) 0 → b ≡ eqb (natAbs (toZ w64 (ofZ w64 (r .threes))) % 60) 0
       → c ≡ eqb (natAbs (toZ w64 (ofZ w64 (r .fives))) % 60) 0 → d ≡ eqb (natAbs (toZ w64 (ofZ w64 (r .others))) % 60) 0
       → v ≡ (c && d) → w ≡ (b && v) → x ≡ (a && w) → x ≡ all-whole (ratio-in r)
@@ -46,15 +46,15 @@ module _ (r : Ratio) (h : Small r) {a b c d v w x : Bool} where
 -- ONES
 
 pub record Ones (z y : ℤ) : Type 0 where
-  pub is : y ≡ whole (exponent z)
+  pub is : y ≡ whole-number (exponent z)
   pub small : natAbs y < 2 ^ 30
   pub room : natAbs (toZ w64 (ofZ w64 y)) < 2 ^ 30
 
-pub ones-told : (z : ℤ) {y : ℤ} → natAbs z < 2 ^ 30 → (y ≡ whole (exponent (toZ w64 (ofZ w64 z)))) × (natAbs y ≤ natAbs (toZ w64 (ofZ w64 z))) → Ones z y
+pub ones-told : (z : ℤ) {y : ℤ} → natAbs z < 2 ^ 30 → (y ≡ whole-number (exponent (toZ w64 (ofZ w64 z)))) × (natAbs y ≤ natAbs (toZ w64 (ofZ w64 z))) → Ones z y
 ones-told z {y} h e =
     let q = bits z (omega arith) in
     let l : natAbs y < 2 ^ 30 = omega (arith, e .1, ap natAbs q) in
-    record { is = e .0 ∙ ap (λ (x : ℤ). whole (exponent x)) q; small = l; room = rw (bits y (omega arith)) l }
+    record { is = e .0 ∙ ap (λ (x : ℤ). whole-number (exponent x)) q; small = l; room = rw (bits y (omega arith)) l }
 
 -- NUMERATOR AND DENOMINATOR
 
@@ -74,7 +74,7 @@ side f g law t b e i j k p q r h =
     rw (← law 2 t, ← law 3 b, ← law 487 e)
     (rw (p, q, r, bits t i, bits b (omega arith), bits e (omega arith)) at h)
 
-module _ (r : Ratio) {a b c e t : ℤ} (i : Ones (r .twos) a) (j : Ones (r .threes) b) (k : Ones (r .fives) c) (l : Ones (r .others) e)
+module _ (r : ScaleRatio) {a b c e t : ℤ} (i : Ones (r .twos) a) (j : Ones (r .threes) b) (k : Ones (r .fives) c) (l : Ones (r .others) e)
     (u : (t ≡ toZ w64 (ofZ w64 a) -ℤ toZ w64 (ofZ w64 c)) × (natAbs t ≤ natAbs (toZ w64 (ofZ w64 a)) + natAbs (toZ w64 (ofZ w64 c)))) where
   rest-is : t ≡ a -ℤ c
   rest-is = u .0 ∙ rw (bits a (omega (arith, i .small)), bits c (omega (arith, k .small)))

@@ -11,7 +11,7 @@ use mir.Val.{SFits, toZ, ofZ}
 use mir.Facts.{toZ-ofZ}
 use borrow.Author.Tests.{ltb-true, ltb-false, lt-leb, le-leb}
 use Rattle.label.specs.Reading.{exponent}
-use Rattle.label.specs.Conversion.{whole}
+use Rattle.label.specs.Conversion.{whole-number}
 use Rattle.label.proofs.Basics.{false-true}
 use Rattle.content.proofs.HeldSigns.{negative, held-rest, natural, held}
 use Rattle.content.proofs.Integers.{abs-sum, abs-neg, abs-mag, mag-abs, wide-fits}
@@ -80,11 +80,11 @@ module _ {a b : ℤ} (f : SFits w64 a) (g : SFits w64 b) (h : natAbs a + natAbs 
 
 -- SIXTIETHS
 
-quotient-whole : (z : ℤ) → quotZ z (pos 60) ≡ whole (exponent z)
+quotient-whole : (z : ℤ) → quotZ z (pos 60) ≡ whole-number (exponent z)
 quotient-whole (pos n) = refl
 quotient-whole (negsuc n) = refl
 
-whole-size : (z : ℤ) → natAbs (whole (exponent z)) ≤ natAbs z / 60
+whole-size : (z : ℤ) → natAbs (whole-number (exponent z)) ≤ natAbs z / 60
 whole-size (pos n) = omega arith
 whole-size (negsuc n) = omega (arith, abs-neg (suc n / 60))
 
@@ -92,13 +92,13 @@ module _ {z : ℤ} (f : SFits w64 z) where
   abbrev quotient : ℤ
   quotient = quotZ (toZ w64 (ofZ w64 z)) (pos 60)
 
-  quotient-is : quotient ≡ whole (exponent z)
+  quotient-is : quotient ≡ whole-number (exponent z)
   quotient-is = ap (λ (y : ℤ). quotZ y (pos 60)) (toZ-ofZ f) ∙ quotient-whole z
 
   pub quotient-fits : SFits w64 quotient
   quotient-fits = rw quotient-is (wide-fits (omega (arith, whole-size z, f .sfits, abs-mag z)))
 
-  pub quotient-held : (toZ w64 (ofZ w64 quotient) ≡ whole (exponent z)) × (natAbs (toZ w64 (ofZ w64 quotient)) ≤ natAbs z)
+  pub quotient-held : (toZ w64 (ofZ w64 quotient) ≡ whole-number (exponent z)) × (natAbs (toZ w64 (ofZ w64 quotient)) ≤ natAbs z)
   quotient-held = let q = toZ-ofZ quotient-fits ∙ quotient-is in (q, rw q (omega (arith, whole-size z)))
 
 -- THE LIMITS OF K

@@ -25,9 +25,9 @@ use Rattle.content.specs.Views.{scale-in}
 use Rattle.content.proofs.Integers.{wide-fits}
 use Rattle.reading.specs.declared.read.Answer.{Answer}
 use Rattle.reading.specs.Views.{reading-in}
-use Rattle.reading.specs.Answers.{Reads}
+use Rattle.reading.specs.Answers.{ReadingAnswer}
 use Rattle.reading.proofs.Answering.{dimensions-room}
-use Rattle.conversion.specs.Answers.{Sums, Limited, ReadSums, ratio-in, Small}
+use Rattle.conversion.specs.Answers.{Sums, LimitedScale, ReadSums, ratio-in, SmallRatio}
 
 -- WHAT THE SUMS OF A READING ARE
 
@@ -53,12 +53,12 @@ limited-by r xs e w h = go
     go (suc (suc (suc zero))) l = rw (ap (λ (c : Scale). c .of-487 .0) q) (h 487 (List·Memᴰ·tail (List·Memᴰ·tail (List·Memᴰ·tail (List·Memᴰ·head refl)))))
     go (suc (suc (suc (suc i)))) l = absurd (omega arith)
 
-module _ {n : ℕ} {s : List ℕ} {t : Lent} {x : List ℕ} {ds cs : List ℤ} {r : Answer} (w : Reads n s t x ds cs r) where
+module _ {n : ℕ} {s : List ℕ} {t : Lent} {x : List ℕ} {ds cs : List ℤ} {r : Answer} (w : ReadingAnswer n s t x ds cs r) where
   sums-read : r .number ≡ 0 → Sums ds cs (reading n s)
   unfolding reading-in
   sums-read e = record { dimensions = ap (λ (y : Reading). y .dimensions) (w .is e); scale = ap (λ (y : Reading). y .scale) (w .is e) }
 
-  limited-read : r .number ≡ 0 → Limited cs
+  limited-read : r .number ≡ 0 → LimitedScale cs
   limited-read e = record {
     small = limited-by (reading n s) cs (sums-read e .scale) (accepted-parts n s (sym (w .number) ∙ e)) (λ p m. omega (arith, exponents-bounded n s .1 p m));
   }
@@ -85,14 +85,14 @@ not-same (negsuc m) (pos n) h = refl
 not-same (negsuc m) (negsuc n) h = ne-eqb m n (λ e. h (ap negsuc e))
 
 -- the places from i on, of the first 32, decide
-pub record Comparing (xs ys : List ℤ) (i : ℕ) : Type 0 where
+pub record ComparingSums (xs ys : List ℤ) (i : ℕ) : Type 0 where
   pub within : i ≤ 32
   pub rest : same-exponents (map exponent (drop i (take 32 xs))) (map exponent (drop i (take 32 ys))) ≡ same-exponents (map exponent (take 32 xs)) (map exponent (take 32 ys))
 
-pub comparing₀ : (xs ys : List ℤ) → Comparing xs ys 0
+pub comparing₀ : (xs ys : List ℤ) → ComparingSums xs ys 0
 comparing₀ xs ys = record { within = omega arith; rest = refl }
 
-module _ (xs ys : List ℤ) (i : ℕ) (w : Comparing xs ys i) (l : length (take 32 xs) ≡ 32) (m : length (take 32 ys) ≡ 32) where
+module _ (xs ys : List ℤ) (i : ℕ) (w : ComparingSums xs ys i) (l : length (take 32 xs) ≡ 32) (m : length (take 32 ys) ≡ 32) where
   abbrev Answer-is : Bool → Type 0
   Answer-is b = b ≡ same-exponents (map exponent (take 32 xs)) (map exponent (take 32 ys))
 
@@ -115,7 +115,7 @@ module _ (xs ys : List ℤ) (i : ℕ) (w : Comparing xs ys i) (l : length (take 
     pub comparing-differs : (ofZ w64 (getD xs i (pos 0)) ≡ ofZ w64 (getD ys i (pos 0)) → ⊥) → Answer-is false
     comparing-differs e = sym (next h ∙ rw (not-same (getD xs i (pos 0)) (getD ys i (pos 0)) (λ q. e (ap (ofZ w64) q))))
 
-    pub comparing-more : ofZ w64 (getD xs i (pos 0)) ≡ ofZ w64 (getD ys i (pos 0)) → Comparing xs ys (i + 1)
+    pub comparing-more : ofZ w64 (getD xs i (pos 0)) ≡ ofZ w64 (getD ys i (pos 0)) → ComparingSums xs ys (i + 1)
     comparing-more e =
         let u : SFits w64 (getD xs i (pos 0)) = record { sfits = f } in
         let v : SFits w64 (getD ys i (pos 0)) = record { sfits = g } in
@@ -126,10 +126,10 @@ module _ (xs ys : List ℤ) (i : ℕ) (w : Comparing xs ys i) (l : length (take 
 -- FIRST OVER SECOND
 
 -- exponent i of a prime, as the machine holds it
-held-at : (xs : List ℤ) → Limited (drop 32 xs) → (i : ℕ) → i < 4 → toZ w64 (ofZ w64 (getD xs (32 + i) (pos 0))) ≡ getD (drop 32 xs) i (pos 0)
+held-at : (xs : List ℤ) → LimitedScale (drop 32 xs) → (i : ℕ) → i < 4 → toZ w64 (ofZ w64 (getD xs (32 + i) (pos 0))) ≡ getD (drop 32 xs) i (pos 0)
 held-at xs w i h = rw (← getD-drop 32 xs i (pos 0)) (toZ-ofZ (wide-fits (omega (arith, w .small i h))))
 
-module _ (xs ys : List ℤ) (w : Limited (drop 32 xs)) (v : Limited (drop 32 ys)) (i : ℕ) (h : i < 4) where
+module _ (xs ys : List ℤ) (w : LimitedScale (drop 32 xs)) (v : LimitedScale (drop 32 ys)) (i : ℕ) (h : i < 4) where
   first-bits : toZ w64 (ofZ w64 (getD xs (32 + i) (pos 0))) ≡ getD (drop 32 xs) i (pos 0)
   first-bits = held-at xs w i h
 
@@ -150,11 +150,11 @@ module _ (xs ys : List ℤ) (w : Limited (drop 32 xs)) (v : Limited (drop 32 ys)
       let q : toZ w64 (ofZ w64 z) ≡ z = toZ-ofZ (wide-fits (omega arith)) in
       record { is = q ∙ e .0 ∙ rw (first-bits, second-bits); small = rw q l }
 
-pub ratio-told : (xs ys : List ℤ) (w : Limited (drop 32 xs)) (v : Limited (drop 32 ys)) {a b c d : ℤ} (h₀ : 0 < 4) (h₁ : 1 < 4) (h₂ : 2 < 4) (h₃ : 3 < 4)
+pub ratio-told : (xs ys : List ℤ) (w : LimitedScale (drop 32 xs)) (v : LimitedScale (drop 32 ys)) {a b c d : ℤ} (h₀ : 0 < 4) (h₁ : 1 < 4) (h₂ : 2 < 4) (h₃ : 3 < 4)
     → Difference xs ys w v 0 h₀ a → Difference xs ys w v 1 h₁ b → Difference xs ys w v 2 h₂ c → Difference xs ys w v 3 h₃ d
     → (ratio-in (record { twos = toZ w64 (ofZ w64 a); threes = toZ w64 (ofZ w64 b); fives = toZ w64 (ofZ w64 c); others = toZ w64 (ofZ w64 d) })
     ≡ over (scale-in (drop 32 xs)) (scale-in (drop 32 ys)))
-    × Small (record { twos = toZ w64 (ofZ w64 a); threes = toZ w64 (ofZ w64 b); fives = toZ w64 (ofZ w64 c); others = toZ w64 (ofZ w64 d) })
+    × SmallRatio (record { twos = toZ w64 (ofZ w64 a); threes = toZ w64 (ofZ w64 b); fives = toZ w64 (ofZ w64 c); others = toZ w64 (ofZ w64 d) })
 unfolding over
 ratio-told xs ys w v h₀ h₁ h₂ h₃ p q r s = (
   λ i. record { of-2 = exponent (p .is i); of-3 = exponent (q .is i); of-5 = exponent (r .is i); of-487 = exponent (s .is i) },

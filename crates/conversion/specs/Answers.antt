@@ -9,7 +9,7 @@ use Rattle.label.specs.Conversion as spec
 use Rattle.content.specs.Views.{scale-in}
 use Rattle.reading.specs.declared.read.Answer.{Answer}
 use Rattle.conversion.specs.declared.answer.Conversion.{Conversion}
-use Rattle.conversion.specs.declared.fraction.Ratio.{Ratio}
+use Rattle.conversion.specs.declared.fraction.ScaleRatio.{ScaleRatio}
 use Rattle.conversion.specs.Powers.{Held}
 
 abbrev pub conversion-in : Conversion → spec.Conversion
@@ -23,12 +23,12 @@ pub record Sums (ds cs : List ℤ) (r : Reading) : Type 0 where
   pub scale : scale-in cs ≡ r .scale
 
 -- four exponents, each small enough that a difference fits the machine
-pub record Limited (cs : List ℤ) : Type 0 where
+pub record LimitedScale (cs : List ℤ) : Type 0 where
   pub small : (i : ℕ) → i < 4 → natAbs (getD cs i (pos 0)) < 2 ^ 28
 
 pub record Summed (ds cs : List ℤ) : Type 0 where
   pub dimensions : length ds ≡ 32
-  pub scale : Limited cs
+  pub scale : LimitedScale cs
 
 -- the number, and where it is 0, the sums and whether all units are known
 pub record ReadSums (n : ℕ) (s : List ℕ) (ds cs : List ℤ) (r : Answer) : Type 0 where
@@ -40,11 +40,11 @@ pub record ReadSums (n : ℕ) (s : List ℕ) (ds cs : List ℤ) (r : Answer) : T
 -- SCALES
 
 -- the scale of first over second
-abbrev pub ratio-in : Ratio → Scale
+abbrev pub ratio-in : ScaleRatio → Scale
 ratio-in r = record { of-2 = exponent (r .twos); of-3 = exponent (r .threes); of-5 = exponent (r .fives); of-487 = exponent (r .others) }
 
 -- exponents of a size that no sum of theirs leaves the machine's numbers
-pub record Small (r : Ratio) : Type 0 where
+pub record SmallRatio (r : ScaleRatio) : Type 0 where
   pub twos : natAbs (r .twos) < 2 ^ 30
   pub threes : natAbs (r .threes) < 2 ^ 30
   pub fives : natAbs (r .fives) < 2 ^ 30

@@ -2,7 +2,7 @@
 use crate::powers::LARGEST;
 use label::Tens;
 ghost use mathlib.Core.Path.{_≡_};
-ghost use Rattle.label.specs.Conversion.{refuse, unless, small};
+ghost use Rattle.label.specs.Conversion.{refuse-conversion, unless, small};
 ghost use Rattle.conversion.specs.Answers.{conversion-in};
 
 // 0 and a fraction times a power of ten, or the number of a refusal, 0/1 and k = 0.
@@ -14,8 +14,8 @@ pub struct Conversion {
 }
 
 // Refusal `i`.
-pub fn refused(i: u8) -> Conversion
-    ensures { λ r. ⌜ conversion-in r ≡ refuse i ⌝ }
+pub fn refuse_conversion(i: u8) -> Conversion
+    ensures { λ r. ⌜ conversion-in r ≡ refuse-conversion i ⌝ }
 {
     Conversion {
         number: i,
@@ -32,7 +32,7 @@ pub fn unless(passed: bool, i: u8, x: Conversion) -> Conversion
     if passed {
         return x;
     }
-    refused(i)
+    refuse_conversion(i)
 }
 
 // Whether the numerator, the denominator and k keep their limits.

@@ -1,7 +1,7 @@
 // The public call.
 use crate::answer::Conversion;
 use crate::answer::is_small;
-use crate::answer::refused;
+use crate::answer::refuse_conversion;
 use crate::answer::unless;
 use crate::fraction::are_whole;
 use crate::fraction::fraction;
@@ -40,12 +40,12 @@ pub fn convert(first: u32, s: &[u8], second: u32, t: &[u8]) -> Conversion
     let mut first_sums: [i64; 36] = [0; 36];
     let a = read_sums(first, s, &mut first_sums);
     if a.number != 0 {
-        return refused(a.number);
+        return refuse_conversion(a.number);
     }
     let mut second_sums: [i64; 36] = [0; 36];
     let b = read_sums(second, t, &mut second_sums);
     if b.number != 0 {
-        return refused(b.number);
+        return refuse_conversion(b.number);
     }
     let known = both(a.known, b.known);
     convert_sums(known, &first_sums, &second_sums)

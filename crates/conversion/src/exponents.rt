@@ -3,7 +3,7 @@ ghost use mathlib.Core.Path.{_≡_};
 ghost use Prim.Native.Nat.{_+_, _%_, _<_, _≤_, _^_};
 ghost use lib.IntN.{natAbs, _-ℤ_};
 ghost use Rattle.label.specs.Reading.{exponent};
-ghost use Rattle.label.specs.Conversion.{is-whole, whole};
+ghost use Rattle.label.specs.Conversion.{is-whole, whole-number};
 ghost use Rattle.conversion.specs.Powers as spec;
 
 // How large `z` is, up or down.
@@ -52,7 +52,7 @@ pub fn is_whole(z: i64) -> bool
 
 // How many ones are in so many sixtieths.
 pub fn ones(z: i64) -> i64
-    ensures { λ r. ⌜ (r ≡ whole (exponent z)) × (natAbs r ≤ natAbs z) ⌝ }
+    ensures { λ r. ⌜ (r ≡ whole-number (exponent z)) × (natAbs r ≤ natAbs z) ⌝ }
 {
     z / 60
 }

@@ -12,10 +12,10 @@ ghost use mathlib.Core.Path.{_≡_};
 ghost use Prim.Native.Nat.{_<_, _^_};
 ghost use lib.IntN.{natAbs};
 ghost use Rattle.label.specs.Conversion.{all-whole, fraction-of};
-ghost use Rattle.conversion.specs.Answers.{ratio-in, Small, Nearly};
+ghost use Rattle.conversion.specs.Answers.{ratio-in, SmallRatio, Nearly};
 
 // The exponents of 2, 3, 5 and 487 in first over second, in sixtieths.
-pub struct Ratio {
+pub struct ScaleRatio {
     pub twos: i64,
     pub threes: i64,
     pub fives: i64,
@@ -23,8 +23,8 @@ pub struct Ratio {
 }
 
 // Whether all four exponents are whole.
-pub fn are_whole(r: Ratio) -> bool
-    requires { ⌜ Small r ⌝ }
+pub fn are_whole(r: ScaleRatio) -> bool
+    requires { ⌜ SmallRatio r ⌝ }
     ensures { λ w. ⌜ w ≡ all-whole (ratio-in r) ⌝ }
 {
     both(
@@ -37,7 +37,7 @@ pub fn are_whole(r: Ratio) -> bool
 }
 
 // A fraction times a power of ten.
-fn given(numerator: u64, denominator: u64, k: i64) -> Conversion
+fn gives(numerator: u64, denominator: u64, k: i64) -> Conversion
     requires { ⌜ natAbs k < 2 ^ 31 ⌝ }
     ensures { λ r. ⌜ (r .number ≡ 0) × ((r .numerator ≡ numerator) × ((r .denominator ≡ denominator) × (r .k .0 ≡ k))) ⌝ }
 {
@@ -50,8 +50,8 @@ fn given(numerator: u64, denominator: u64, k: i64) -> Conversion
 }
 
 // The fraction that whole exponents give.
-pub fn fraction(r: Ratio) -> Conversion
-    requires { ⌜ Small r ⌝ }
+pub fn fraction(r: ScaleRatio) -> Conversion
+    requires { ⌜ SmallRatio r ⌝ }
     ensures { λ x. ⌜ Nearly (fraction-of (ratio-in r)) x ⌝ }
 {
     let fives = ones(r.fives);
@@ -60,5 +60,5 @@ pub fn fraction(r: Ratio) -> Conversion
     let others = ones(r.others);
     let n = product(above(twos), above(threes), above(others));
     let d = product(below(twos), below(threes), below(others));
-    given(n, d, fives)
+    gives(n, d, fives)
 }

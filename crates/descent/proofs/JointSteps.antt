@@ -16,8 +16,8 @@ use Rattle.label.proofs.Basics.{false-true}
 use Rattle.scan.specs.Runs.{Run, is-space}
 use Rattle.label.proofs.Between.{here, beyond}
 use Rattle.tokens.proofs.Readers.{by-byte, byte-tested, byte-and}
-use Rattle.descent.specs.declared.joint.Joint.{Joint as Joined}
-use Rattle.descent.specs.Joints.{separates, Pads, Joins, Spaces, Leads, slashed, Slashes}
+use Rattle.descent.specs.declared.joint.JointAt.{JointAt}
+use Rattle.descent.specs.Joints.{separates, Pads, Joins, SpacesJoin, Leads, slashed, Slashes}
 
 module _ {r : Rules} {s : List ℕ} {at : ℕ} where
   pub pads-spaces : {e : ℕ} → r .spaces ≡ true → Run is-space s at e → Pads r s at e
@@ -34,7 +34,7 @@ tested-room s at c b h e q l = omega (arith, byte-tested s at c b l (byte-and c 
 
 -- SPACES
 
-abbrev no-joint : ℕ → Joined
+abbrev no-joint : ℕ → JointAt
 no-joint at = record { found = false; over = false; next = at }
 
 spaced-is : (r : Rules) (s : List ℕ) (at : ℕ) → spaced r (drop at s) ≡ pick (eqb (getD s at 0) space && r .space) (times (padded r (drop (at + 1) s))) stop
@@ -42,10 +42,10 @@ unfolding spaced
 spaced-is r s at = by-byte (spaced r) (λ c w u. pick (eqb c space && r .space) (times (padded r u)) stop) (λ c u. refl) refl s at
 
 module _ {r : Rules} {s : List ℕ} {at c : ℕ} {x : Bool} (h : c ≡ getD s at 0) (e : x ≡ (eqb c space && r .space)) where
-  pub spaces-join : {p : ℕ} → x ≡ true → Pads r s (at + 1) p → Spaces r s at (record { found = true; over = false; next = p })
+  pub spaces-join : {p : ℕ} → x ≡ true → Pads r s (at + 1) p → SpacesJoin r s at (record { found = true; over = false; next = p })
   spaces-join t w = record { tied = record { is = rw (spaced-is r s at, ← h, sym e ∙ t, w .rest); after = λ _. omega (arith, w .from); within = w .within } }
 
-  pub no-space-joins : x ≡ false → at ≤ length s → Spaces r s at (no-joint at)
+  pub no-space-joins : x ≡ false → at ≤ length s → SpacesJoin r s at (no-joint at)
   no-space-joins t l = record { tied = record { is = rw (spaced-is r s at, ← h, sym e ∙ t); after = λ q. absurd (false-true q); within = l } }
 
 -- SEPARATORS AND SLASHES
@@ -67,7 +67,7 @@ module _ {r : Rules} {s : List ℕ} {at p : ℕ} (w : Pads r s at p) where
         tied = record { is = rw (← w .rest, here s p h, sym e ∙ t, sym f ∙ u, v .rest); after = λ _. omega (arith, w .from, v .from); within = v .within };
       }
 
-      pub spaces-alone-join : {o : Joined} → y ≡ false → Spaces r s at o → Joins r s at o
+      pub spaces-alone-join : {o : JointAt} → y ≡ false → SpacesJoin r s at o → Joins r s at o
       unfolding joint joint-at
       spaces-alone-join u v = record { tied = record { is = rw (← w .rest, here s p h, sym e ∙ t, sym f ∙ u) (v .tied .is); after = v .tied .after; within = v .tied .within } }
 

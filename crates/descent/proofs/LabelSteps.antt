@@ -23,9 +23,9 @@ use Rattle.tokens.specs.declared.factor.FactorAt.{FactorAt}
 use Rattle.tokens.specs.Answers.{ReadsFactor}
 use Rattle.tokens.proofs.Readers.{by-byte, byte-found, byte-is}
 use Rattle.descent.specs.declared.whole.LabelRead.{LabelRead}
-use Rattle.descent.specs.Terms.{Lent, Empty}
+use Rattle.descent.specs.Terms.{Lent, NoTerms}
 use Rattle.descent.specs.Steps.{Ready, Stepped}
-use Rattle.descent.specs.Labels.{OneSpace, Gaps, no-label, Ended, Tells, ReadsFactored, ReadsLabel}
+use Rattle.descent.specs.Labels.{OneSpace, Gaps, no-label, EndsLabel, Tells, ReadsFactored, ReadsLabel}
 use Rattle.descent.proofs.TermSteps.{holds-none}
 
 -- THE GAP AFTER A FACTOR
@@ -61,7 +61,7 @@ module _ {r : Rules} {s : List ℕ} {at : ℕ} where
 -- THE END
 
 module _ {s : List ℕ} {f : WrittenFactor} {p : ℕ} where
-  pub text-left : {o : LabelRead} → o ≡ no-label → p ≤ length s → Ended s f p o
+  pub text-left : {o : LabelRead} → o ≡ no-label → p ≤ length s → EndsLabel s f p o
   unfolding ended
   text-left e h = rw e (record { is = λ x ps. go p h x; good = λ y. absurd (false-true y); inside = λ i. tt })
     where
@@ -69,18 +69,18 @@ module _ {s : List ℕ} {f : WrittenFactor} {p : ℕ} where
       go zero l x m n = rw (m refl)
       go (suc q) l x m n = rw (n (omega arith), here s (suc q - 1) (omega arith))
 
-  pub text-ends : length s < p → Ended s f p (record { ok = true; factor = f })
+  pub text-ends : length s < p → EndsLabel s f p (record { ok = true; factor = f })
   unfolding ended
   text-ends h = record { is = λ x ps m n. rw (n (omega arith), beyond s (p - 1) (omega arith)); good = λ _. omega arith; inside = λ i. i }
 
 -- A READING THAT ENDS THE LABEL
 
-pub ready-empty : {s : List ℕ} {at : ℕ} {t : Lent} → Empty t → at ≤ length s → Ready s at t
+pub ready-empty : {s : List ℕ} {at : ℕ} {t : Lent} → NoTerms t → at ≤ length s → Ready s at t
 ready-empty w g = record { within = g; few = omega (arith, w .counts); room = w .room }
 
 -- from no term on, the terms read are the label's
 tells-ended : (x : Kind) (r : Rules) (b : Bool) (s : List ℕ) (at : ℕ) (t u : Lent) (f : WrittenFactor) (p : ℕ) (o : LabelRead) (y : Parsed)
-    → Empty t → FactorInside s f → Stepped x r b s at t u p → Ended s f p o → y ≡ ended (factor-in s f) (read r (fuel s) x b (drop at s)) → Tells y s u o
+    → NoTerms t → FactorInside s f → Stepped x r b s at t u p → EndsLabel s f p o → y ≡ ended (factor-in s f) (read r (fuel s) x b (drop at s)) → Tells y s u o
 tells-ended x r b s at t u f p o y w i a v e = record {
   parts = a .reads .parts;
   is = e ∙ v .is (read r (fuel s) x b (drop at s)) (a .reads .parts) (λ q. a .reads .misses q (fuel s) (omega (arith, rank-most x))) (λ q. a .reads .is q (fuel s) (omega (arith, rank-most x)));
@@ -95,8 +95,8 @@ module _ {r : Rules} {s : List ℕ} {f : FactorAt} (w : ReadsFactor (factor r (d
   unfolding factored
   no-factor-read q e = rw q (record { tells = record { parts = []; is = rw (w .is, not-true (f .ok) e); holds = λ x. absurd (false-true x); inside = tt } })
 
-  pub factor-read : {n p : ℕ} {t u : Lent} {o : LabelRead} → not (f .ok) ≡ false → Gaps r s (f .next) n → Empty t → Stepped quotient r false s n t u p
-      → Ended s (f .factor) p o → ReadsFactored r s u o
+  pub factor-read : {n p : ℕ} {t u : Lent} {o : LabelRead} → not (f .ok) ≡ false → Gaps r s (f .next) n → NoTerms t → Stepped quotient r false s n t u p
+      → EndsLabel s (f .factor) p o → ReadsFactored r s u o
   unfolding factored
   factor-read {n} {p} {t} {u} {o} e g y a v = record {
     tells = tells-ended quotient r false s n t u (f .factor) p o _ y (w .inside) a v
@@ -137,7 +137,7 @@ digit-factor : (c : ℕ) (f : Bool) {x y : Bool} → x ≡ digit c → y ≡ (x 
 digit-factor c f k d = d ∙ ap (λ (b : Bool). b && f) k
 
 module _ {r : Rules} {s : List ℕ} where
-  pub label-empty : {t : Lent} → length s ≡ 0 → Empty t → ReadsLabel r s t (record { ok = true; factor = Absent })
+  pub label-empty : {t : Lent} → length s ≡ 0 → NoTerms t → ReadsLabel r s t (record { ok = true; factor = Absent })
   unfolding parse-by
   label-empty h w = record { tells = record { parts = []; is = by-nothing r _ _ s h; holds = λ _. holds-none w s; inside = tt } }
 
@@ -159,10 +159,10 @@ module _ {r : Rules} {s : List ℕ} where
       }
 
       module _ (e : y ≡ false) {b : Bool} (q : b ≡ (eqb (getD s 0 0) slash && r .lead)) where
-        pub label-from-slash : {t u : Lent} {p : ℕ} {o : LabelRead} → b ≡ true → Empty t → Stepped item r true s 1 t u p → Ended s Absent p o → ReadsLabel r s u o
+        pub label-from-slash : {t u : Lent} {p : ℕ} {o : LabelRead} → b ≡ true → NoTerms t → Stepped item r true s 1 t u p → EndsLabel s Absent p o → ReadsLabel r s u o
         unfolding parse-by
         label-from-slash {t} {u} {p} {o} z w a v = record { tells = tells-ended item r true s 1 t u Absent p o _ w tt a v (by-slash r _ _ s (omega arith) n (sym (digit-factor (getD s 0 0) (r .factor) k d) ∙ e) (sym q ∙ z)) }
 
-        pub label-from-product : {t u : Lent} {p : ℕ} {o : LabelRead} → b ≡ false → Empty t → Stepped quotient r false s 0 t u p → Ended s Absent p o → ReadsLabel r s u o
+        pub label-from-product : {t u : Lent} {p : ℕ} {o : LabelRead} → b ≡ false → NoTerms t → Stepped quotient r false s 0 t u p → EndsLabel s Absent p o → ReadsLabel r s u o
         unfolding parse-by
         label-from-product {t} {u} {p} {o} z w a v = record { tells = tells-ended quotient r false s 0 t u Absent p o _ w tt a v (by-rest r _ _ s (omega arith) n (sym (digit-factor (getD s 0 0) (r .factor) k d) ∙ e) (sym q ∙ z)) }

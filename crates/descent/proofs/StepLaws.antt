@@ -16,18 +16,18 @@ use Rattle.label.specs.Parse.{Found, none, found, then, mapped, closed, exponen
 use Rattle.label.specs.Ranges.{between, written-in}
 use Rattle.label.proofs.Basics.{and-left, and-right}
 use Rattle.label.proofs.Complete.{rank-most}
-use Rattle.scan.specs.Spellings.{Spelled}
-use Rattle.scan.specs.declared.spelling.Spelling.{Spelling}
+use Rattle.scan.specs.Spellings.{ReadsSpelling}
+use Rattle.scan.specs.declared.spelling.SpellingAt.{SpellingAt}
 use Rattle.tokens.specs.declared.power.PowerAt.{PowerAt}
 use Rattle.tokens.specs.Answers.{begins, ReadsPower}
 use Rattle.tokens.proofs.Readers.{by-byte, byte-found, byte-tested, byte-is, byte-no-close, begins-room, close-found}
 use Rattle.values.specs.declared.powers.MaybeExponent.{MaybeExponent}
 use Rattle.values.specs.Given.{given}
-use Rattle.descent.specs.declared.joint.Joint.{Joint as Joined}
+use Rattle.descent.specs.declared.joint.JointAt.{JointAt}
 use Rattle.descent.specs.declared.joint.Leading.{Leading}
-use Rattle.descent.specs.Terms.{Lent, Kept}
+use Rattle.descent.specs.Terms.{Lent, KeepsTerm}
 use Rattle.descent.specs.Joints.{turned-by, joint-by, Joins, leading-by, Leads, slashed, Slashes}
-use Rattle.descent.specs.Steps.{Ready, Reads, least, fuel-at, kind, Stepped, Chained, Grouped, ReadsUnit}
+use Rattle.descent.specs.Steps.{Ready, ReadsParts, least, fuel-at, kind, Stepped, Chained, Grouped, ReadsUnit}
 use Rattle.descent.proofs.TermSteps.{holds-more}
 use Rattle.descent.proofs.JointSteps.{slashed-is}
 
@@ -35,7 +35,7 @@ use Rattle.descent.proofs.JointSteps.{slashed-is}
 
 module _ {f : ℕ → List ℕ → Found (List Part)} {need least : ℕ} {s : List ℕ} {at : ℕ} {t : Lent} where
   -- nothing is read
-  nothing-read : {u : Lent} → ((k : ℕ) → need < k → f k (drop at s) ≡ none) → Reads f need least s at t u 0
+  nothing-read : {u : Lent} → ((k : ℕ) → need < k → f k (drop at s) ≡ none) → ReadsParts f need least s at t u 0
   nothing-read h = record {
     parts = [];
     misses = λ _. h;
@@ -47,7 +47,7 @@ module _ {f : ℕ → List ℕ → Found (List Part)} {need least : ℕ} {s : Li
 
   -- what g reads at another place
   same-read : {g : ℕ → List ℕ → Found (List Part)} {need' least' at' : ℕ} {u : Lent} {o : ℕ} → at + least ≤ at' + least'
-      → ((k : ℕ) → need < k → (j : ℕ) × (need' < j) × (f k (drop at s) ≡ g j (drop at' s))) → Reads g need' least' s at' t u o → Reads f need least s at t u o
+      → ((k : ℕ) → need < k → (j : ℕ) × (need' < j) × (f k (drop at s) ≡ g j (drop at' s))) → ReadsParts g need' least' s at' t u o → ReadsParts f need least s at t u o
   same-read le same a = record {
     parts = a .parts;
     misses = λ e k h. let q = same k h in q .2 ∙ a .misses e (q .0) (q .1);
@@ -57,9 +57,9 @@ module _ {f : ℕ → List ℕ → Found (List Part)} {need least : ℕ} {s : Li
     keeps = a .keeps;
   }
 
-  module _ {g : ℕ → List ℕ → Found (List Part)} {need' least' : ℕ} {u : Lent} {i : ℕ} (a : Reads g need' least' s at t u i) (y : 0 < i) where
+  module _ {g : ℕ → List ℕ → Found (List Part)} {need' least' : ℕ} {u : Lent} {i : ℕ} (a : ReadsParts g need' least' s at t u i) (y : 0 < i) where
     -- just what g reads
-    more-read : at + least ≤ at + least' → ((k : ℕ) → need < k → f k (drop at s) ≡ found (a .parts) (drop (i - 1) s)) → Reads f need least s at t u i
+    more-read : at + least ≤ at + least' → ((k : ℕ) → need < k → f k (drop at s) ≡ found (a .parts) (drop (i - 1) s)) → ReadsParts f need least s at t u i
     more-read le same = record {
       parts = a .parts;
       misses = λ e. absurd (omega arith);
@@ -71,8 +71,8 @@ module _ {f : ℕ → List ℕ → Found (List Part)} {need least : ℕ} {s : Li
 
     -- what g reads, then what h reads after it
     then-read : {h : ℕ → List ℕ → Found (List Part)} {need'' least'' at' : ℕ} {v : Lent} {o : ℕ} → at + least ≤ at' + least''
-        → ((k : ℕ) → need < k → (j : ℕ) × (need'' < j) × (f k (drop at s) ≡ appended (a .parts) (h j (drop at' s)))) → Reads h need'' least'' s at' u v o
-        → Reads f need least s at t v o
+        → ((k : ℕ) → need < k → (j : ℕ) × (need'' < j) × (f k (drop at s) ≡ appended (a .parts) (h j (drop at' s)))) → ReadsParts h need'' least'' s at' u v o
+        → ReadsParts f need least s at t v o
     unfolding appended mapped
     then-read le same b = record {
       parts = a .parts ++ b .parts;
@@ -90,19 +90,19 @@ above P f (suc k) h = f k (omega arith)
 
 -- UNITS
 
-module _ {r : Rules} {b : Bool} {s : List ℕ} {at : ℕ} {t : Lent} {w : Spelling} where
-  pub unit-unspelled : Spelled r s at w → not (w .ok) ≡ true → ReadsUnit r b s at t t 0
+module _ {r : Rules} {b : Bool} {s : List ℕ} {at : ℕ} {t : Lent} {w : SpellingAt} where
+  pub unit-unspelled : ReadsSpelling r s at w → not (w .ok) ≡ true → ReadsUnit r b s at t t 0
   unfolding unit then
   unit-unspelled v e = record { reads = nothing-read (λ k h. rw (v .is, not-true (w .ok) e)) }
 
-  module _ {p : PowerAt} (v : Spelled r s at w) (e : not (w .ok) ≡ false) (q : ReadsPower (exponent r (drop (w .end) s)) s (w .end) p) where
+  module _ {p : PowerAt} (v : ReadsSpelling r s at w) (e : not (w .ok) ≡ false) (q : ReadsPower (exponent r (drop (w .end) s)) s (w .end) p) where
     pub unit-unpowered : not (p .ok) ≡ true → ReadsUnit r b s at t t 0
     unfolding unit then mapped
     unit-unpowered f = record { reads = nothing-read (λ k h. rw (v .is, not-false (w .ok) e, q .is, not-true (p .ok) f)) }
 
     pub unit-read : {m : MaybeExponent} {u : Lent} → Ready s at t → not (p .ok) ≡ false
         → given (m .ok) (m .exponent) ≡ exponent-of b (written-in s (p .power))
-        → Kept t at (w .end) (m .exponent .0) (m .ok) u → ReadsUnit r b s at t u (p .next + 1)
+        → KeepsTerm t at (w .end) (m .exponent .0) (m .ok) u → ReadsUnit r b s at t u (p .next + 1)
     unfolding unit then mapped
     unit-read g f x y =
         let far = v .ahead (not-false (w .ok) e) in
@@ -193,7 +193,7 @@ ready-inside {s} {at} h e w = record { within = omega (arith, byte-found s at op
 abbrev one-by-one : Rules → Bool → Bool → ℕ → List ℕ → Found (List Part)
 one-by-one r d b k v = chained (read r k item d v) (λ w. read r k more b w)
 
-more-next : (r : Rules) (b : Bool) (s : List ℕ) (at : ℕ) (j : Joined) (k : ℕ) → Joins r s at j → j .found ≡ true
+more-next : (r : Rules) (b : Bool) (s : List ℕ) (at : ℕ) (j : JointAt) (k : ℕ) → Joins r s at j → j .found ≡ true
     → read r (suc k) more b (drop at s) ≡ one-by-one r (turned-by (j .over) b) b k (drop (j .next) s)
 unfolding read more-at
 more-next r b s at j k w e = rw (w .tied .is, e) (go (j .over))
@@ -223,7 +223,7 @@ chain-none : (r : Rules) (d b : Bool) (s : List ℕ) (at k : ℕ) → read r k i
 unfolding chained then
 chain-none r d b s at k e = rw e
 
-more-none : (r : Rules) (b : Bool) (s : List ℕ) (at : ℕ) (j : Joined) (k : ℕ) (ps : List Part) → Joins r s at j → j .found ≡ false
+more-none : (r : Rules) (b : Bool) (s : List ℕ) (at : ℕ) (j : JointAt) (k : ℕ) (ps : List Part) → Joins r s at j → j .found ≡ false
     → appended ps (read r (suc k) more b (drop at s)) ≡ found ps (drop at s)
 unfolding read more-at appended mapped
 more-none r b s at j k ps w e = rw (w .tied .is, e, append-nil ps)
@@ -276,7 +276,7 @@ module _ {r : Rules} {b d : Bool} {s : List ℕ} {at from i : ℕ} {t u v : Lent
       go true = record { reads = nothing-read (above _ (λ k h. rw (product-none .reads .misses refl k (omega arith)))) }
       go false = product-none
 
-  module _ {j : Joined} (e : i ≡ 0 → ⊥) (w : Joins r s (i - 1) j) where
+  module _ {j : JointAt} (e : i ≡ 0 → ⊥) (w : Joins r s (i - 1) j) where
     pub turn-less : not (j .found) ≡ false → length s - j .next < length s - from
     turn-less f = omega (arith, w .tied .after (not-false (j .found) f), a .reads .ahead (omega arith), w .tied .within)
 

@@ -14,7 +14,7 @@ use Rattle.label.specs.Lexical.{Part}
 use Rattle.label.specs.Limits.{exponent-of}
 use Rattle.label.specs.Split.{Placed, valued-unit, valued-units}
 use Rattle.values.specs.Given.{given}
-use Rattle.descent.specs.Terms.{Lent, lent, Roomy, count, broken, Empty, LentTerm, term, term-at, terms, mark, Kept, placed-in, missing, InLabel, AllIn, Holds}
+use Rattle.descent.specs.Terms.{Lent, lent, Roomy, count, broken, NoTerms, LentTerm, term, term-at, terms, mark, KeepsTerm, placed-in, missing, InLabel, AllIn, HoldsUnits}
 
 -- terms that are the same one by one
 terms-same : (t u : Lent) (n : ℕ) → ((i : ℕ) → i < n → term-at u i ≡ term-at t i) → terms u n ≡ terms t n
@@ -65,7 +65,7 @@ marks-as : (p : List ℕ) (n m : ℕ) (ok : Bool) → m ≡ mark ok (getD (set p
 marks-as p n m ok w = w ∙ ap (mark ok) (getD-set-other p 64 65 (n + 1) 0 (λ q. omega arith))
 
 module _ {p : List ℕ} {e : List ℤ} {n m a z : ℕ} {x : ℤ} {ok : Bool} (l : Roomy (lent p e)) (c : getD p 64 0 ≡ n) (w : m ≡ mark ok (getD (set p 64 (n + 1)) 65 0)) where
-  pub kept-in-room : {y : ℤ} → y ≡ x → n < 32 → Kept (lent p e) a z x ok (lent (stored p n m a z) (set e n y))
+  pub kept-in-room : {y : ℤ} → y ≡ x → n < 32 → KeepsTerm (lent p e) a z x ok (lent (stored p n m a z) (set e n y))
   kept-in-room {y} q h = record {
     room = record { places = simp length-set (l .places); exponents = simp length-set (l .exponents) };
     counted = stored-other p n m (l .places) a z 64 (λ q. omega arith) (λ q. omega arith) ∙ noted-count p n m (l .places) ∙ ap (λ (k : ℕ). k + 1) (sym c);
@@ -91,7 +91,7 @@ module _ {p : List ℕ} {e : List ℤ} {n m a z : ℕ} {x : ℤ} {ok : Bool} (l 
         getD-set-other e n i y (pos 0) (λ q. omega arith),
       )
 
-  pub kept-without-room : 32 ≤ n → Kept (lent p e) a z x ok (lent (noted p n m) e)
+  pub kept-without-room : 32 ≤ n → KeepsTerm (lent p e) a z x ok (lent (noted p n m) e)
   kept-without-room h = record {
     room = record { places = simp length-set (l .places); exponents = l .exponents };
     counted = noted-count p n m (l .places) ∙ ap (λ (k : ℕ). k + 1) (sym c);
@@ -101,7 +101,7 @@ module _ {p : List ℕ} {e : List ℤ} {n m a z : ℕ} {x : ℤ} {ok : Bool} (l 
 
 -- THE UNITS THAT THE TERMS REPRESENT
 
-pub holds-none : {t : Lent} → Empty t → (s : List ℕ) → Holds s t []
+pub holds-none : {t : Lent} → NoTerms t → (s : List ℕ) → HoldsUnits s t []
 unfolding valued-units terms
 holds-none w s = record { counted = w .counts; marks = w .unbroken; kept = λ h e. refl; inside = λ h. AllIn.none }
 
@@ -138,14 +138,14 @@ all-in-more AllIn.none i = AllIn.more i AllIn.none
 all-in-more (AllIn.more j js) i = AllIn.more j (all-in-more js i)
 
 module _ (s : List ℕ) {t u : Lent} {a z : ℕ} {x : Exponent} {ok : Bool} (p : Part) (q : given ok x ≡ exponent-of (p .turned) (p .power))
-    (same : placed-in s (term a z (x .0)) ≡ record { spelling = p .spelling; exponent = x; left = p .left }) (w : Kept t a z (x .0) ok u) (i : InLabel s (term a z (x .0))) where
+    (same : placed-in s (term a z (x .0)) ≡ record { spelling = p .spelling; exponent = x; left = p .left }) (w : KeepsTerm t a z (x .0) ok u) (i : InLabel s (term a z (x .0))) where
   units-more : (ps : List Part) → valued-units (ps ++ (p ∷ [])) ≡ both-units (valued-units ps) (given ok (placed-in s (term a z (x .0)) ∷ []))
   units-more ps = units-append ps (p ∷ []) ∙ ap (both-units (valued-units ps)) (one-unit p ok x q ∙ ap (λ (y : Placed). given ok (y ∷ [])) (sym same))
 
   terms-more : (ps : List Part) → count t ≡ length ps → length (ps ++ (p ∷ [])) ≤ 32 → terms u (length (ps ++ (p ∷ []))) ≡ terms t (length ps) ++ (term a z (x .0) ∷ [])
   terms-more ps c l = rw (length-append ps (p ∷ []), ← c) (w .adds (omega (arith, length-append ps (p ∷ []))))
 
-  pub holds-more : (ps : List Part) → Holds s t ps → Holds s u (ps ++ (p ∷ []))
+  pub holds-more : (ps : List Part) → HoldsUnits s t ps → HoldsUnits s u (ps ++ (p ∷ []))
   unfolding both-units
   holds-more ps h = record {
     counted = omega (arith, w .counted, h .counted, length-append ps (p ∷ []));

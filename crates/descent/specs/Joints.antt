@@ -9,7 +9,7 @@ use lib.ListN.{length, drop}
 use Rattle.label.specs.declared.Rules.{Rules}
 use Rattle.label.specs.Bytes.{star, point, slash}
 use Rattle.label.specs.Parse.{Joint, stop, times, over, padded, spaced, joint, leading}
-use Rattle.descent.specs.declared.joint.Joint.{Joint as Joined}
+use Rattle.descent.specs.declared.joint.JointAt.{JointAt}
 use Rattle.descent.specs.declared.joint.Leading.{Leading}
 
 abbrev pub separates : Rules → ℕ → Bool
@@ -32,15 +32,15 @@ joint-by true false t = times t
 joint-by true true t = over t
 
 -- x joins, and o says how and where it ends; or it does not
-pub record Tied (x : Joint) (s : List ℕ) (at : ℕ) (o : Joined) : Type 0 where
+pub record Tied (x : Joint) (s : List ℕ) (at : ℕ) (o : JointAt) : Type 0 where
   pub is : x ≡ joint-by (o .found) (o .over) (drop (o .next) s)
   pub after : o .found ≡ true → at < o .next
   pub within : o .next ≤ length s
 
-pub record Joins (r : Rules) (s : List ℕ) (at : ℕ) (o : Joined) : Type 0 where
+pub record Joins (r : Rules) (s : List ℕ) (at : ℕ) (o : JointAt) : Type 0 where
   pub tied : Tied (joint r (drop at s)) s at o
 
-pub record Spaces (r : Rules) (s : List ℕ) (at : ℕ) (o : Joined) : Type 0 where
+pub record SpacesJoin (r : Rules) (s : List ℕ) (at : ℕ) (o : JointAt) : Type 0 where
   pub tied : Tied (spaced r (drop at s)) s at o
 
 abbrev pub leading-by : Bool → List ℕ → Option (List ℕ)

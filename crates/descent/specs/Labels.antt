@@ -11,7 +11,7 @@ use Rattle.label.specs.Lexical.{Factor, Part, quotient}
 use Rattle.label.specs.Parse.{Found, none, found, factor, Parsed, refused, parsed, ended, one-space, gap, factored, fuel, read, parse-by}
 use Rattle.label.specs.Ranges.{factor-in, FactorInside}
 use Rattle.descent.specs.declared.whole.LabelRead.{LabelRead}
-use Rattle.descent.specs.Terms.{Lent, Holds}
+use Rattle.descent.specs.Terms.{Lent, HoldsUnits}
 
 pub record OneSpace (s : List ℕ) (at o : ℕ) : Type 0 where
   pub rest : drop o s ≡ one-space (drop at s)
@@ -32,7 +32,7 @@ abbrev pub no-label : LabelRead
 no-label = record { ok = false; factor = Absent }
 
 -- what was read, up to the place before p, ends the label
-pub record Ended (s : List ℕ) (f : WrittenFactor) (p : ℕ) (o : LabelRead) : Type 0 where
+pub record EndsLabel (s : List ℕ) (f : WrittenFactor) (p : ℕ) (o : LabelRead) : Type 0 where
   pub is : (x : Found (List Part)) (ps : List Part) → (p ≡ 0 → x ≡ none) → (0 < p → x ≡ found ps (drop (p - 1) s))
       → ended (factor-in s f) x ≡ parsed-by (o .ok) (factor-in s (o .factor)) ps
   pub good : o .ok ≡ true → 0 < p
@@ -42,7 +42,7 @@ pub record Ended (s : List ℕ) (f : WrittenFactor) (p : ℕ) (o : LabelRead) : 
 pub record Tells (x : Parsed) (s : List ℕ) (t : Lent) (o : LabelRead) : Type 0 where
   pub parts : List Part
   pub is : x ≡ parsed-by (o .ok) (factor-in s (o .factor)) parts
-  pub holds : o .ok ≡ true → Holds s t parts
+  pub holds : o .ok ≡ true → HoldsUnits s t parts
   pub inside : FactorInside s (o .factor)
 
 pub record ReadsFactored (r : Rules) (s : List ℕ) (t : Lent) (o : LabelRead) : Type 0 where

@@ -32,7 +32,7 @@ abbrev pub broken : Lent → ℕ
 broken t = getD (t .places) 65 0
 
 -- no term yet
-pub record Empty (t : Lent) : Type 0 where
+pub record NoTerms (t : Lent) : Type 0 where
   pub room : Roomy t
   pub counts : count t ≡ 0
   pub unbroken : broken t ≡ 0
@@ -61,7 +61,7 @@ abbrev pub mark : Bool → ℕ → ℕ
 mark true m = m
 mark false m = 1
 
-pub record Kept (t : Lent) (a z : ℕ) (x : ℤ) (ok : Bool) (u : Lent) : Type 0 where
+pub record KeepsTerm (t : Lent) (a z : ℕ) (x : ℤ) (ok : Bool) (u : Lent) : Type 0 where
   pub room : Roomy u
   pub counted : count u ≡ count t + 1
   pub marks : broken u ≡ mark ok (broken t)
@@ -88,7 +88,7 @@ pub data AllIn (s : List ℕ) : List LentTerm → Type 0 where
   more : {x : LentTerm} {xs : List LentTerm} → InLabel s x → AllIn s xs → AllIn s (x ∷ xs)
 
 -- the terms represent these units: all are counted, a mark says whether a power breaks its bound, and up to 32 are kept with their values
-pub record Holds (s : List ℕ) (t : Lent) (ps : List Part) : Type 0 where
+pub record HoldsUnits (s : List ℕ) (t : Lent) (ps : List Part) : Type 0 where
   pub counted : count t ≡ length ps
   pub marks : broken t ≡ missing (valued-units ps)
   pub kept : length ps ≤ 32 → broken t ≡ 0 → valued-units ps ≡ some (map (placed-in s) (terms t (length ps)))

@@ -10,13 +10,13 @@ use scan::class::byte_at;
 use scan::spelling::spelling_at;
 use tokens::power::closes;
 use tokens::power::power_after;
-use values::powers::exponent;
+use values::powers::exponent_of;
 ghost use Rattle.label.specs.Lexical.{item};
 ghost use Rattle.descent.specs.Terms.{lent};
 ghost use Rattle.descent.specs.Steps.{Ready, kind, Stepped, Grouped, ReadsUnit};
 
 // A spelling and its power.
-pub fn unit(
+pub fn read_unit(
     r: Rules,
     s: &[u8],
     at: usize,
@@ -39,7 +39,7 @@ pub fn unit(
         return 0;
     }
     let power = p.power;
-    let e = exponent(s, turned, power);
+    let e = exponent_of(s, turned, power);
     let x = e.exponent;
     keep(places, exponents, at, end, x, e.ok);
     next + 1
@@ -94,7 +94,7 @@ pub fn read_item(
     if byte_at(s, at) == b'(' {
         return read_group(r, s, at + 1, turned, places, exponents);
     }
-    unit(r, s, at, turned, places, exponents)
+    read_unit(r, s, at, turned, places, exponents)
 }
 
 // A product, perhaps over one unit or group.

@@ -6,10 +6,10 @@ use scan::run::spaces;
 ghost use Prim.Native.Nat.{_≤_};
 ghost use mathlib.Core.Path.{_≡_};
 ghost use lib.ListN.{length};
-ghost use Rattle.descent.specs.Joints.{separates, turned-by, Pads, Joins, Spaces, Leads, Slashes};
+ghost use Rattle.descent.specs.Joints.{separates, turned-by, Pads, Joins, SpacesJoin, Leads, Slashes};
 
 // Whether something joins, whether it is a slash, and where the text after it starts.
-pub struct Joint {
+pub struct JointAt {
     pub found: bool,
     pub over: bool,
     pub next: usize,
@@ -47,18 +47,18 @@ pub fn is_separator(r: Rules, c: u8) -> bool
 }
 
 // A product by spaces alone.
-pub fn spaced(r: Rules, s: &[u8], at: usize) -> Joint
+pub fn spaced(r: Rules, s: &[u8], at: usize) -> JointAt
     requires { ⌜ at ≤ length (now s) ⌝ }
-    ensures { λ o. ⌜ Spaces r (now (s .entry)) at o ⌝ }
+    ensures { λ o. ⌜ SpacesJoin r (now (s .entry)) at o ⌝ }
 {
     if both(byte_at(s, at) == b' ', r.space) {
-        return Joint {
+        return JointAt {
             found: true,
             over: false,
             next: padded(r, s, at + 1),
         };
     }
-    Joint {
+    JointAt {
         found: false,
         over: false,
         next: at,
@@ -66,13 +66,13 @@ pub fn spaced(r: Rules, s: &[u8], at: usize) -> Joint
 }
 
 // What joins the unit or group before `at` to the next.
-pub fn join_at(r: Rules, s: &[u8], at: usize) -> Joint
+pub fn join_at(r: Rules, s: &[u8], at: usize) -> JointAt
     requires { ⌜ at ≤ length (now s) ⌝ }
     ensures { λ o. ⌜ Joins r (now (s .entry)) at o ⌝ }
 {
     let p = padded(r, s, at);
     if s.len() <= p {
-        return Joint {
+        return JointAt {
             found: false,
             over: false,
             next: at,
@@ -80,14 +80,14 @@ pub fn join_at(r: Rules, s: &[u8], at: usize) -> Joint
     }
     let c = s[p];
     if is_separator(r, c) {
-        return Joint {
+        return JointAt {
             found: true,
             over: false,
             next: padded(r, s, p + 1),
         };
     }
     if both(c == b'/', r.each) {
-        return Joint {
+        return JointAt {
             found: true,
             over: true,
             next: padded(r, s, p + 1),

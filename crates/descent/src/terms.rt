@@ -4,7 +4,7 @@ use label::Exponent;
 ghost use mathlib.Core.Path.{_≡_};
 ghost use Prim.Native.Nat.{_<_, _+_, _^_};
 ghost use lib.ListN.{getD};
-ghost use Rattle.descent.specs.Terms.{lent, Roomy, mark, Kept};
+ghost use Rattle.descent.specs.Terms.{lent, Roomy, mark, KeepsTerm};
 
 // The mark `m`, or 1 where `ok` is false.
 pub fn marked(m: usize, ok: bool) -> usize
@@ -27,7 +27,7 @@ pub fn keep(
 )
     requires { ⌜ Roomy (lent (now places) (now exponents)) ⌝ }
     requires { ⌜ getD (now places) 64 0 + 1 < 2 ^ 64 ⌝ }
-    ensures { λ _. ⌜ Kept
+    ensures { λ _. ⌜ KeepsTerm
         (lent (now (places .entry)) (now (exponents .entry))) start end (exponent .0) ok
         (lent (now (places .exit)) (now (exponents .exit))) ⌝ }
 {

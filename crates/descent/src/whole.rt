@@ -12,8 +12,8 @@ use tokens::factor::factor_at;
 ghost use mathlib.Core.Path.{_≡_};
 ghost use Prim.Native.Nat.{_≤_};
 ghost use lib.ListN.{length};
-ghost use Rattle.descent.specs.Terms.{lent, Empty};
-ghost use Rattle.descent.specs.Labels.{OneSpace, Gaps, no-label, Ended, ReadsFactored, ReadsLabel};
+ghost use Rattle.descent.specs.Terms.{lent, NoTerms};
+ghost use Rattle.descent.specs.Labels.{OneSpace, Gaps, no-label, EndsLabel, ReadsFactored, ReadsLabel};
 
 // The factor of a label, or none where `ok` is false. The terms are in the lent arrays.
 pub struct LabelRead {
@@ -58,7 +58,7 @@ pub fn gap(r: Rules, s: &[u8], at: usize) -> usize
 
 // What was read up to the label's end, with the factor before it; `p` is one more than the place where it ends, or 0.
 pub fn ended(s: &[u8], f: WrittenFactor, p: usize) -> LabelRead
-    ensures { λ o. ⌜ Ended (now (s .entry)) f p o ⌝ }
+    ensures { λ o. ⌜ EndsLabel (now (s .entry)) f p o ⌝ }
 {
     if p <= s.len() {
         return no_label();
@@ -76,7 +76,7 @@ pub fn factored(
     places: &mut [usize; 66],
     exponents: &mut [i32; 32],
 ) -> LabelRead
-    requires { ⌜ Empty (lent (now places) (now exponents)) ⌝ }
+    requires { ⌜ NoTerms (lent (now places) (now exponents)) ⌝ }
     ensures { λ o. ⌜ ReadsFactored r (now (s .entry)) (lent (now (places .exit)) (now (exponents .exit))) o ⌝ }
 {
     let f = factor_at(r, s, 0);
@@ -100,7 +100,7 @@ pub fn read_label(
     places: &mut [usize; 66],
     exponents: &mut [i32; 32],
 ) -> LabelRead
-    requires { ⌜ Empty (lent (now places) (now exponents)) ⌝ }
+    requires { ⌜ NoTerms (lent (now places) (now exponents)) ⌝ }
     ensures { λ o. ⌜ ReadsLabel r (now (s .entry)) (lent (now (places .exit)) (now (exponents .exit))) o ⌝ }
 {
     if s.len() == 0 {

@@ -12,12 +12,12 @@ use Rattle.descent.specs.Terms.{Lent, count}
 use Rattle.content.proofs.Naming.{all-in-at}
 use Rattle.reading.specs.declared.read.Answer.{Answer}
 use Rattle.reading.specs.Views.{reading-in}
-use Rattle.reading.specs.Answers.{Reads}
+use Rattle.reading.specs.Answers.{ReadingAnswer}
 use Rattle.reading.proofs.Answering.{dimensions-room}
 use Rattle.record.specs.Record.{record-of, written-over, buffer-after}
 use Rattle.record.specs.Recordable.{AllNoted, Recordable}
 
-module _ {n : ℕ} {s : List ℕ} {t : Lent} {x : List ℕ} {ds cs : List ℤ} {r : Answer} (w : Reads n s t x ds cs r) where
+module _ {n : ℕ} {s : List ℕ} {t : Lent} {x : List ℕ} {ds cs : List ℤ} {r : Answer} (w : ReadingAnswer n s t x ds cs r) where
   -- a refusal changes no byte
   pub refused : (b : List ℕ) → r .number ≢ 0 → b ≡ buffer-after (reading n s) b
   unfolding buffer-after
@@ -29,7 +29,7 @@ module _ {n : ℕ} {s : List ℕ} {t : Lent} {x : List ℕ} {ds cs : List ℤ} {
   unfolding buffer-after
   accepted zero b q = q s (record { noted = w .noted zero }) ∙ rw (w .is zero, ← w .number, eq-eqb (r .number) 0 zero)
 
-pub recordable : {n : ℕ} {s : List ℕ} {t : Lent} {x : List ℕ} (zs : List ℤ) {r : Answer} → Reads n s t x (take 32 zs) (drop 32 zs) r → r .number ≡ 0
+pub recordable : {n : ℕ} {s : List ℕ} {t : Lent} {x : List ℕ} (zs : List ℤ) {r : Answer} → ReadingAnswer n s t x (take 32 zs) (drop 32 zs) r → r .number ≡ 0
     → Recordable t x zs
 recordable {t = t} zs w zero = let v = w .within zero in record {
   few = v .few;

@@ -9,7 +9,7 @@ ghost use mathlib.Core.Path.{_≡_};
 ghost use Rattle.label.specs.Reading.{reading};
 ghost use Rattle.record.specs.Record.{buffer-after};
 ghost use Rattle.label.specs.Writing.{rewriting-into, buffer-with};
-ghost use Rattle.rewriting.specs.Buffers.{Answers};
+ghost use Rattle.rewriting.specs.Buffers.{AnswerIs};
 ghost use lib.ListN.{length};
 
 // Reads the label in a notation and answers the number of the refusal, or 0 and the reading's record in the lent buffer.
@@ -46,7 +46,7 @@ pub extern "C" fn thalinguze_rewrite(
     target: u32,
     buffer: &mut [u8],
 ) -> Rewritten
-    ensures { λ r. ⌜ Answers (rewriting-into (length (now (buffer .entry))) source (now (label .entry)) target) r ⌝ }
+    ensures { λ r. ⌜ AnswerIs (rewriting-into (length (now (buffer .entry))) source (now (label .entry)) target) r ⌝ }
     ensures { λ _. ⌜ now (buffer .exit)
         ≡ buffer-with (rewriting-into (length (now (buffer .entry))) source (now (label .entry)) target) (now (buffer .entry)) ⌝ }
 {

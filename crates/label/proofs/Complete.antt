@@ -12,8 +12,8 @@ use Rattle.label.specs.Parse.{Found, found, then, mapped, byte, closed, 
 use Rattle.label.proofs.Basics.{differs, Ends}
 use Rattle.label.proofs.Signs.{by, by-append, by-nil, by-turned, by-part}
 use Rattle.label.proofs.General.{SpellingBy, ExponentBy, G}
-use Rattle.label.proofs.Joints.{Spells, Begins, times-joint, over-joint, over-leading, begins-leading, end-stops, close-stops, slash-stops, times-ends, over-ends, times-long, over-long}
-use Rattle.label.proofs.LexComplete.{prefix-letters, exponent-complete, exponent-unlettered, spelling-complete}
+use Rattle.label.proofs.Joints.{Spells, BeginsItem, times-joint, over-joint, over-leading, begins-leading, end-stops, close-stops, slash-stops, times-ends, over-ends, times-long, over-long}
+use Rattle.label.proofs.LexComplete.{prefix-lettered, exponent-complete, exponent-unlettered, spelling-complete}
 
 -- WHAT A UNIT OR A GROUP BEGINS WITH
 
@@ -25,11 +25,11 @@ spelling-begins (SpellingBy.letters d) u = letters-spell d u
 spelling-begins (SpellingBy.percent f) u = Spells.by-percent
 spelling-begins (SpellingBy.quoted f (quoted d)) u = Spells.by-quote
 spelling-begins (SpellingBy.quoted f (prefixed {p = p} {l = l} d e)) u =
-    rw (append-assoc (p ++ quote ∷ l) (quote ∷ []) u, append-assoc p (quote ∷ l) (quote ∷ u)) (letters-spell (prefix-letters d) (quote ∷ l ++ quote ∷ u))
+    rw (append-assoc (p ++ quote ∷ l) (quote ∷ []) u, append-assoc p (quote ∷ l) (quote ∷ u)) (letters-spell (prefix-lettered d) (quote ∷ l ++ quote ∷ u))
 
-pub item-begins : {r : Rules} {s t : List ℕ} {ps : List Part} → G r item s t ps → Begins s
-item-begins (G.unit {l = l} {e = e} {t = t} d x) = Begins.by-spelling (spelling-begins d (e ++ t))
-item-begins (G.group d) = Begins.by-bracket
+pub item-begins : {r : Rules} {s t : List ℕ} {ps : List Part} → G r item s t ps → BeginsItem s
+item-begins (G.unit {l = l} {e = e} {t = t} d x) = BeginsItem.by-spelling (spelling-begins d (e ++ t))
+item-begins (G.group d) = BeginsItem.by-bracket
 
 -- WHAT MAY FOLLOW
 

@@ -23,7 +23,8 @@ use Rattle.label.specs.Lexical.{Written, unwritten, whole, Part}
 use Rattle.label.specs.Limits.{signed, exclusive-or, Ratio, ratio, sixtieths, bounded, exponent-in, exponent-of, denominator-among, denominator-of, lowest-terms}
 use Rattle.label.specs.Split.{Placed, Valued}
 use Rattle.label.specs.Reading.{term, Reading, refusal, reading-of, reading}
-use Rattle.label.specs.Writing.{power-text, exponent-text, prefix-letters, reads-as, in-quotes, symbol-text, Writable, both-texts, unit-text, factor-text, more-text, label-text, written-by, written, own-letters, writable, ReadsAs, Named, TakesName, Form, ExponentForm, HasForm, Formless, Rewriting, refuse, unless, sized, written-reading, rewriting, Refuses}
+use Rattle.label.specs.Letters.{prefix-letters}
+use Rattle.label.specs.Writing.{power-text, exponent-text, reads-as, in-quotes, symbol-text, Writable, both-texts, unit-text, factor-text, more-text, label-text, written-by, written, own-letters, writable, ReadsAs, NameIn, TakesName, Form, ExponentForm, HasForm, Formless, Rewriting, refuse-rewriting, unless, sized, written-reading, rewriting, Refuses}
 use Rattle.label.specs.Rows.{Style}
 use Rattle.label.proofs.Basics.{none-some, false-true}
 use Rattle.label.proofs.General.{SpellingBy, ExponentBy}
@@ -141,7 +142,7 @@ module _ {n : ℕ} {y : Style} (o : Suited n y) where
   owned-formed {s} d e (OwnedBy.by-name {p = p} {u = u} r q f h) = (
     prefix-letters p ++ r,
     rw (q, drop-at (prefix-letters p) r (length (prefix-letters p)) refl)
-        (Form.by-name {p = p} {u = u} {l = r} (TakesName.keeps (Named.named (unit-owned n r u f))) (own-reads s (prefix-letters p ++ r) (o .ruled) d e q)),
+        (Form.by-name {p = p} {u = u} {l = r} (TakesName.keeps (NameIn.named (unit-owned n r u f))) (own-reads s (prefix-letters p ++ r) (o .ruled) d e q)),
   )
   owned-formed {s} d e (OwnedBy.by-letters {p = p} {l = l} q g h) = (prefix-letters p ++ l, Form.plainly {p = p} {l = l} (own-reads s (prefix-letters p ++ l) (o .ruled) d e q))
 
@@ -250,19 +251,19 @@ accounted n s z = go (answer-of n s)
 -- REWRITING'S REFUSALS
 
 module _ (n : ℕ) (s : List ℕ) (m : ℕ) where
-  refused-source : (i : ℕ) → 1 ≤ i → reading n s .number ≡ i → rewriting n s m ≡ refuse i
+  refused-source : (i : ℕ) → 1 ≤ i → reading n s .number ≡ i → rewriting n s m ≡ refuse-rewriting i
   unfolding rewriting unless
   refused-source i h e = let f : eqb i 0 ≡ false = ne-eqb i 0 (λ q. omega arith) in rw (e, f)
 
-  refused-target : reading n s .number ≡ 0 → notation m ≡ false → rewriting n s m ≡ refuse 1
+  refused-target : reading n s .number ≡ 0 → notation m ≡ false → rewriting n s m ≡ refuse-rewriting 1
   unfolding rewriting unless
   refused-target z e = rw (eq-eqb (reading n s .number) 0 z, e)
 
-  refused-form : reading n s .number ≡ 0 → notation m ≡ true → written-reading m s (reading n s) ≡ none → rewriting n s m ≡ refuse 12
+  refused-form : reading n s .number ≡ 0 → notation m ≡ true → written-reading m s (reading n s) ≡ none → rewriting n s m ≡ refuse-rewriting 12
   unfolding rewriting unless sized
   refused-form z e h = rw (eq-eqb (reading n s .number) 0 z, e, h)
 
-  refused-long : (t : List ℕ) → reading n s .number ≡ 0 → notation m ≡ true → written-reading m s (reading n s) ≡ some t → 255 < length t → rewriting n s m ≡ refuse 13
+  refused-long : (t : List ℕ) → reading n s .number ≡ 0 → notation m ≡ true → written-reading m s (reading n s) ≡ some t → 255 < length t → rewriting n s m ≡ refuse-rewriting 13
   unfolding rewriting unless sized
   refused-long t z e h l = rw (eq-eqb (reading n s .number) 0 z, e, h, lt-leb (length t) 255 l)
 
@@ -282,7 +283,7 @@ module _ (n : ℕ) (s : List ℕ) (m : ℕ) where
       go (Decided.unformed g q) = g
 
   -- a refusal that is due is answered, with nothing written
-  pub refuses-answered : {i : ℕ} → Refuses n s m i → rewriting n s m ≡ refuse i
+  pub refuses-answered : {i : ℕ} → Refuses n s m i → rewriting n s m ≡ refuse-rewriting i
   refuses-answered (Refuses.source {i = i} d) = refused-source i (bounds (d .holds) .0) (number-refused n s i (bounds (d .holds) .0) .1 d)
   refuses-answered (Refuses.target z c) = refused-target z c
   refuses-answered (Refuses.formless z e f) = refused-form z e (formless-none z e f)

@@ -13,7 +13,8 @@ use Rattle.label.specs.Notations.{member}
 use Rattle.label.specs.Units.{Name, unit-at}
 use Rattle.label.specs.Symbols.{Symbol, known, unknown, has-name, unquoted, symbol}
 use Rattle.label.specs.Lexical.{Letters}
-use Rattle.label.specs.Writing.{prefix-letters, same-prefix, same-symbol, reads-as, name-among, name-in, named-text, in-quotes, unknown-text, symbol-text, ReadsAs, Named, FirstName, TakesName, Form}
+use Rattle.label.specs.Letters.{prefix-letters}
+use Rattle.label.specs.Writing.{same-prefix, same-symbol, reads-as, name-among, name-in, named-text, in-quotes, unknown-text, symbol-text, ReadsAs, NameIn, FirstName, TakesName, Form}
 use Rattle.label.specs.Rows.{Style}
 use Rattle.label.proofs.Basics.{false-true, none-some}
 use Rattle.label.proofs.General.{SpellingBy}
@@ -89,24 +90,24 @@ among-first m l (x ∷ xs) h = go (member m (x .known-in)) refl (λ h. among-fir
 
 -- THE FORM OF A UNIT
 
-not-named : {m u : ℕ} {own : List ℕ} → has-name m own (unit-at u .names) ≡ false → Named m u own → ⊥
-not-named e (Named.named f) = false-true (sym e ∙ f)
+not-named : {m u : ℕ} {own : List ℕ} → has-name m own (unit-at u .names) ≡ false → NameIn m u own → ⊥
+not-named e (NameIn.named f) = false-true (sym e ∙ f)
 
 takes-name : (m u : ℕ) (own l : List ℕ) → name-in m own (unit-at u .names) ≡ some l → TakesName m u own l
 unfolding name-in
 takes-name m u own l h = go (has-name m own (unit-at u .names)) refl h
   where
     go : (b : Bool) → has-name m own (unit-at u .names) ≡ b → pick b (some own) (name-among m (unit-at u .names)) ≡ some l → TakesName m u own l
-    go true e h = let q : own ≡ l = cc in rw (← q) (TakesName.keeps (Named.named e))
+    go true e h = let q : own ≡ l = cc in rw (← q) (TakesName.keeps (NameIn.named e))
     go false e h = TakesName.takes (not-named e) (among-first m l (unit-at u .names) h)
 
 name-taken : {m u : ℕ} {own l : List ℕ} → TakesName m u own l → name-in m own (unit-at u .names) ≡ some l
 unfolding name-in
-name-taken (TakesName.keeps (Named.named f)) = rw f
+name-taken (TakesName.keeps (NameIn.named f)) = rw f
 name-taken {m} {u} {own} (TakesName.takes {l = l} g f) = go (has-name m own (unit-at u .names)) refl
   where
     go : (b : Bool) → has-name m own (unit-at u .names) ≡ b → pick b (some own) (name-among m (unit-at u .names)) ≡ some l
-    go true k = absurd (g (Named.named k))
+    go true k = absurd (g (NameIn.named k))
     go false k = first-among f
 
 named-form : {m u : ℕ} {p : Option ℕ} {own t : List ℕ} → NamedText m p u own t → ReadsAs m t (known p u) → Form m own (known p u) t

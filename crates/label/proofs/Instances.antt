@@ -76,10 +76,10 @@ exponent-fits (ExponentBy.bracketed f b) = Fits.Exponent.bracketed b
 exponent-fits (ExponentBy.stars f p) = Fits.Exponent.stars p
 exponent-fits (ExponentBy.caret f p) = Fits.Exponent.caret p
 
-fits-joint : {c : ℕ} → Fits.Joint c → TimesBy fits-rules (c ∷ [])
-fits-joint Fits.Joint.space = TimesBy.space refl Pad.none
-fits-joint Fits.Joint.star = TimesBy.star refl Pad.none Pad.none
-fits-joint Fits.Joint.point = TimesBy.point refl Pad.none Pad.none
+fits-joint : {c : ℕ} → Fits.Joiner c → TimesBy fits-rules (c ∷ [])
+fits-joint Fits.Joiner.space = TimesBy.space refl Pad.none
+fits-joint Fits.Joiner.star = TimesBy.star refl Pad.none Pad.none
+fits-joint Fits.Joiner.point = TimesBy.point refl Pad.none Pad.none
 
 fits-to : {x : Kind} {s t : List ℕ} {ps : List Part} → Fits.Fits x s t ps → G fits-rules x s t ps
 fits-to (Fits.Fits.unit l e) = G.unit (SpellingBy.letters l) (fits-exponent e)
@@ -96,9 +96,9 @@ spelling-fits (SpellingBy.percent f) = absurd (false-true f)
 spelling-fits (SpellingBy.quoted f d) = absurd (false-true f)
 
 fits-times : {j s t u : List ℕ} {ps qs : List Part} → Single fits-rules j → Fits.Fits item s t ps → Fits.Fits more t u qs → Fits.Fits more (j ++ s) u (ps ++ qs)
-fits-times (Single.space f) d m = Fits.Fits.times Fits.Joint.space d m
-fits-times (Single.star f) d m = Fits.Fits.times Fits.Joint.star d m
-fits-times (Single.point f) d m = Fits.Fits.times Fits.Joint.point d m
+fits-times (Single.space f) d m = Fits.Fits.times Fits.Joiner.space d m
+fits-times (Single.star f) d m = Fits.Fits.times Fits.Joiner.star d m
+fits-times (Single.point f) d m = Fits.Fits.times Fits.Joiner.point d m
 
 no-over : {r : Rules} {j : List ℕ} → r .each ≡ false → OverBy r j → ⊥
 no-over e (OverBy.slashed f p q) = false-true (sym e ∙ f)

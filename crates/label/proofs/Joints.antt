@@ -22,9 +22,9 @@ pub data Spells : List ℕ → Type 0 where
   by-quote : {s : List ℕ} → Spells (quote ∷ s)
 
 -- what begins a unit or a group
-pub data Begins : List ℕ → Type 0 where
-  by-spelling : {s : List ℕ} → Spells s → Begins s
-  by-bracket : {s : List ℕ} → Begins (open-bracket ∷ s)
+pub data BeginsItem : List ℕ → Type 0 where
+  by-spelling : {s : List ℕ} → Spells s → BeginsItem s
+  by-bracket : {s : List ℕ} → BeginsItem (open-bracket ∷ s)
 
 abbrev pub is-space : ℕ → Bool
 is-space c = eqb c space
@@ -55,11 +55,11 @@ spelling-opens (Spells.by-letter {c = c} {s = s} t) = opens-with c s (letter-ope
 spelling-opens (Spells.by-percent {s = s}) = opens-with percent s (record { no-space = refl; no-star = refl; no-point = refl; no-slash = refl })
 spelling-opens (Spells.by-quote {s = s}) = opens-with quote s (record { no-space = refl; no-star = refl; no-point = refl; no-slash = refl })
 
-pub opens : {s : List ℕ} → Begins s → Opens s
-opens (Begins.by-spelling d) = spelling-opens d
-opens (Begins.by-bracket {s = s}) = opens-with open-bracket s (record { no-space = refl; no-star = refl; no-point = refl; no-slash = refl })
+pub opens : {s : List ℕ} → BeginsItem s → Opens s
+opens (BeginsItem.by-spelling d) = spelling-opens d
+opens (BeginsItem.by-bracket {s = s}) = opens-with open-bracket s (record { no-space = refl; no-star = refl; no-point = refl; no-slash = refl })
 
-pub begins-stops : {s : List ℕ} → Begins s → Stops is-space s
+pub begins-stops : {s : List ℕ} → BeginsItem s → Stops is-space s
 begins-stops b = let o = opens b in rw (o .is) (Stops.other (o .opener .no-space))
 
 -- SPACES
@@ -96,7 +96,7 @@ after-spaces : (r : Rules) (w : List ℕ) (c : ℕ) (u v : List ℕ) → Opener 
 unfolding joint-at spaced
 after-spaces r w c u v o f q = rw (o .no-star, o .no-point, o .no-slash, q, f)
 
-joint-space : (r : Rules) {a : List ℕ} → r .space ≡ true → Pad r a → (s : List ℕ) → Begins s → joint r (space ∷ a ++ s) ≡ times s
+joint-space : (r : Rules) {a : List ℕ} → r .space ≡ true → Pad r a → (s : List ℕ) → BeginsItem s → joint r (space ∷ a ++ s) ≡ times s
 unfolding joint joint-at spaced padded all
 joint-space r {a} f p s w = go (r .spaces) refl
   where
@@ -110,24 +110,24 @@ joint-space r {a} f p s w = go (r .spaces) refl
     go true e = rw (past-of is-space (space ∷ a) s (pad-all p) (begins-stops w)) after
     go false e = rw (f, tail)
 
-pub times-joint : (r : Rules) {j : List ℕ} → TimesBy r j → (s : List ℕ) → Begins s → joint r (j ++ s) ≡ times s
+pub times-joint : (r : Rules) {j : List ℕ} → TimesBy r j → (s : List ℕ) → BeginsItem s → joint r (j ++ s) ≡ times s
 unfolding separates
 times-joint r (TimesBy.space f p) s w = joint-space r f p s w
 times-joint r (TimesBy.star f p q) s w = joint-byte r star p q refl (rw f) s (begins-stops w)
 times-joint r (TimesBy.point f p q) s w = joint-byte r point p q refl (rw f) s (begins-stops w)
 
-pub over-joint : (r : Rules) {j : List ℕ} → OverBy r j → (s : List ℕ) → Begins s → joint r (j ++ s) ≡ over s
+pub over-joint : (r : Rules) {j : List ℕ} → OverBy r j → (s : List ℕ) → BeginsItem s → joint r (j ++ s) ≡ over s
 unfolding joint joint-at
 over-joint r (OverBy.slashed {a = a} {b = b} f p q) s w =
     rw (append-assoc a (slash ∷ b) s, padded-pad r p (slash ∷ b ++ s) (Stops.other refl), padded-pad r q s (begins-stops w), f)
 
-pub over-leading : (r : Rules) {j : List ℕ} → OverBy r j → (s : List ℕ) → Begins s → leading r (j ++ s) ≡ some s
+pub over-leading : (r : Rules) {j : List ℕ} → OverBy r j → (s : List ℕ) → BeginsItem s → leading r (j ++ s) ≡ some s
 unfolding leading leading-at
 over-leading r (OverBy.slashed {a = a} {b = b} f p q) s w =
     rw (append-assoc a (slash ∷ b) s, padded-pad r p (slash ∷ b ++ s) (Stops.other refl), padded-pad r q s (begins-stops w), f)
 
 -- no slash leads a text that begins with a unit or a group
-pub begins-leading : (r : Rules) {s : List ℕ} → Begins s → leading r s ≡ nothing
+pub begins-leading : (r : Rules) {s : List ℕ} → BeginsItem s → leading r s ≡ nothing
 unfolding leading leading-at
 begins-leading r {s} w =
     let o = opens w in
@@ -149,10 +149,10 @@ slash-stops r s f = rw (padded-pad r Pad.none (slash ∷ s) (Stops.other refl), 
 
 -- WHAT JOINS MAY FOLLOW A UNIT OR A GROUP
 
-begins-no-star : {s : List ℕ} → Begins s → NoStar s
+begins-no-star : {s : List ℕ} → BeginsItem s → NoStar s
 begins-no-star b = let o = opens b in rw (o .is) (NoStar.other (o .opener .no-star))
 
-pad-no-star : {r : Rules} {b : List ℕ} → Pad r b → (s : List ℕ) → Begins s → NoStar (b ++ s)
+pad-no-star : {r : Rules} {b : List ℕ} → Pad r b → (s : List ℕ) → BeginsItem s → NoStar (b ++ s)
 pad-no-star Pad.none s w = begins-no-star w
 pad-no-star (Pad.space f p) s w = NoStar.other refl
 
@@ -160,7 +160,7 @@ pad-ends : {r : Rules} {a : List ℕ} → Pad r a → (s : List ℕ) → Ends s 
 pad-ends Pad.none s h = h
 pad-ends (Pad.space f p) s h = Ends.space
 
-pub times-ends : {r : Rules} {j : List ℕ} → TimesBy r j → (s : List ℕ) → Begins s → Ends (j ++ s)
+pub times-ends : {r : Rules} {j : List ℕ} → TimesBy r j → (s : List ℕ) → BeginsItem s → Ends (j ++ s)
 times-ends (TimesBy.space f p) s w = Ends.space
 times-ends (TimesBy.star {a = a} {b = b} f p q) s w = rw (append-assoc a (star ∷ b) s) (pad-ends p (star ∷ b ++ s) (Ends.star (pad-no-star q s w)))
 times-ends (TimesBy.point {a = a} {b = b} f p q) s w = rw (append-assoc a (point ∷ b) s) (pad-ends p (point ∷ b ++ s) Ends.point)

@@ -15,7 +15,7 @@ use Rattle.label.specs.Ogip.{Unspaced, unspaced}
 use Rattle.label.specs.Parse.{Found, none, found, read, factor, refused, parsed, ended, one-space, gap, factored, label-by, fuel, parse-by}
 use Rattle.label.proofs.Basics.{false-true, T→true, true→T, both, Stops, run-past, run-all, past-of, differs, letter-no-digit, Ends}
 use Rattle.label.proofs.General.{Pad, OverBy, G, FactorBy, GapBy, LabelBy}
-use Rattle.label.proofs.Joints.{Spells, Begins, is-space, Opens, opens, begins-stops, pad-all}
+use Rattle.label.proofs.Joints.{Spells, BeginsItem, is-space, Opens, opens, begins-stops, pad-all}
 use Rattle.label.proofs.LexComplete.{Unfactored, factor-complete, factor-digit}
 use Rattle.label.proofs.LexSound.{factor-sound}
 use Rattle.label.proofs.Complete.{item-begins, Closes, complete}
@@ -25,7 +25,7 @@ use Rattle.label.proofs.Sound.{read-sound}
 
 -- a unit or a group, or a leading slash after spaces
 pub data Starts (r : Rules) : List ℕ → Type 0 where
-  begun : {s : List ℕ} → Begins s → Starts r s
+  begun : {s : List ℕ} → BeginsItem s → Starts r s
   slashed : {a : List ℕ} → r .each ≡ true → Pad r a → (s : List ℕ) → Starts r (a ++ slash ∷ s)
 
 product-starts : {r : Rules} {s t : List ℕ} {ps : List Part} → G r product s t ps → Starts r s
@@ -37,13 +37,13 @@ quotient-starts (G.plain d) = product-starts d
 quotient-starts (G.divided f d i) = product-starts d
 
 -- no digit, sign, caret or star starts a product
-begins-unfactored : {s : List ℕ} → Begins s → Unfactored s
+begins-unfactored : {s : List ℕ} → BeginsItem s → Unfactored s
 unfolding letter digit
-begins-unfactored (Begins.by-spelling (Spells.by-letter {c = c} t)) =
+begins-unfactored (BeginsItem.by-spelling (Spells.by-letter {c = c} t)) =
     Unfactored.other {c = c} (letter-no-digit c t) (rw (differs letter c plus t refl, differs letter c minus t refl)) (differs letter c caret t refl) (differs letter c star t refl)
-begins-unfactored (Begins.by-spelling Spells.by-percent) = Unfactored.other refl refl refl refl
-begins-unfactored (Begins.by-spelling Spells.by-quote) = Unfactored.other refl refl refl refl
-begins-unfactored Begins.by-bracket = Unfactored.other refl refl refl refl
+begins-unfactored (BeginsItem.by-spelling Spells.by-percent) = Unfactored.other refl refl refl refl
+begins-unfactored (BeginsItem.by-spelling Spells.by-quote) = Unfactored.other refl refl refl refl
+begins-unfactored BeginsItem.by-bracket = Unfactored.other refl refl refl refl
 
 pad-unfactored : {r : Rules} {a : List ℕ} → Pad r a → (s : List ℕ) → Unfactored s → Unfactored (a ++ s)
 unfolding digit
@@ -212,11 +212,11 @@ refused-parsed : {f : Factor} {ps : List Part} → refused ≡ parsed f ps → �
 refused-parsed e = let z : _≡_ {A = ℕ} 0 1 = cc in omega arith
 
 -- what ends a text was found
-record Ended (x : Found (List Part)) (f n : Factor) (ps : List Part) : Type 0 where
+record EndFound (x : Found (List Part)) (f n : Factor) (ps : List Part) : Type 0 where
   is : x ≡ found ps []
   same : f ≡ n
 
-ended-sound : (x : Found (List Part)) (f n : Factor) (ps : List Part) → ended f x ≡ parsed n ps → Ended x f n ps
+ended-sound : (x : Found (List Part)) (f n : Factor) (ps : List Part) → ended f x ≡ parsed n ps → EndFound x f n ps
 unfolding ended
 ended-sound none f n ps h = absurd (refused-parsed h)
 ended-sound (found qs []) f n ps h = record { is = (cc); same = (cc) }

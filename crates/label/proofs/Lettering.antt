@@ -18,54 +18,54 @@ use Rattle.label.specs.Symbols.{Symbol, known, unknown, Cut, KnownCut, u
 use Rattle.label.specs.Lexical.{Part, Factor, turned-all, Kind, Letters, PrefixName, Quoted}
 use Rattle.label.specs.Split.{Placed}
 use Rattle.label.specs.Reading.{Term, term, answered, refusal, reading-of, reading}
-use Rattle.label.specs.Letters.{name-of, before-letters, letters-from, letters-start, letters-of, letters-size}
+use Rattle.label.specs.Letters.{prefix-letters, before-letters, letters-from, letters-start, letters-of, letters-size}
 use Rattle.label.proofs.Basics.{none-some, both, T-and, true→T, differs, same-is, Stops, run-of, past-of, run-past, drop-take}
 use Rattle.label.proofs.Computing.{symbols-compute}
 use Rattle.label.proofs.Cuts.{follows-is}
 use Rattle.label.proofs.General.{SpellingBy, G, LabelBy}
-use Rattle.label.proofs.LexComplete.{prefix-letters, letters-all}
+use Rattle.label.proofs.LexComplete.{prefix-lettered, letters-all}
 use Rattle.label.proofs.Ruled.{derives-by}
 use Rattle.label.proofs.Refusals.{Values, valued-values}
 use Rattle.label.proofs.Places.{AllLocated, label-located, located-there}
 use Rattle.label.proofs.Readings.{Answered, answer-of}
 
 -- what a spelling l stands for: a known unit; letters after a prefix name or nothing; or letters in quotes there
-pub data Spelt (l : List ℕ) : Symbol → Type 0 where
-  is-known : {p : Option ℕ} {u : ℕ} → Spelt l (known p u)
-  plain : {p : Option ℕ} {m : List ℕ} → past unquoted l ≡ [] → l ≡ name-of p ++ m → 0 < length m → Spelt l (unknown p m)
-  in-quotes : {p : Option ℕ} {m : List ℕ} → run unquoted l ≡ name-of p → past unquoted l ≡ quote ∷ (m ++ (quote ∷ [])) → 0 < length m → Spelt l (unknown p m)
+pub data SpelledAs (l : List ℕ) : Symbol → Type 0 where
+  is-known : {p : Option ℕ} {u : ℕ} → SpelledAs l (known p u)
+  plain : {p : Option ℕ} {m : List ℕ} → past unquoted l ≡ [] → l ≡ prefix-letters p ++ m → 0 < length m → SpelledAs l (unknown p m)
+  in-quotes : {p : Option ℕ} {m : List ℕ} → run unquoted l ≡ prefix-letters p → past unquoted l ≡ quote ∷ (m ++ (quote ∷ [])) → 0 < length m → SpelledAs l (unknown p m)
 
 -- NAMES OF PREFIXES
 
 -- the prefixes from the place i on
 record Table (i : ℕ) (ps : List Prefix) : Type 0 where
-  names : (k : ℕ) → getD ps k (prefix "" (pos 0)) .name ≡ name-of (some (i + k))
+  names : (k : ℕ) → getD ps k (prefix "" (pos 0)) .name ≡ prefix-letters (some (i + k))
 
 table : Table 0 prefixes
 table = record { names = λ k. let z : 0 + k ≡ k = omega arith in rw z }
 
-table-first : {i : ℕ} {p : Prefix} {ps : List Prefix} → Table i (p ∷ ps) → p .name ≡ name-of (some i)
-table-first {i} w = let z : i + 0 ≡ i = omega arith in w .names 0 ∙ ap (λ (j : ℕ). name-of (some j)) z
+table-first : {i : ℕ} {p : Prefix} {ps : List Prefix} → Table i (p ∷ ps) → p .name ≡ prefix-letters (some i)
+table-first {i} w = let z : i + 0 ≡ i = omega arith in w .names 0 ∙ ap (λ (j : ℕ). prefix-letters (some j)) z
 
 table-rest : {i : ℕ} {p : Prefix} {ps : List Prefix} → Table i (p ∷ ps) → Table (suc i) ps
-table-rest {i} w = record { names = λ k. let z : i + suc k ≡ suc i + k = omega arith in w .names (suc k) ∙ ap (λ (j : ℕ). name-of (some j)) z }
+table-rest {i} w = record { names = λ k. let z : i + suc k ≡ suc i + k = omega arith in w .names (suc k) ∙ ap (λ (j : ℕ). prefix-letters (some j)) z }
 
-placed-name : (i : ℕ) (l : List ℕ) (ps : List Prefix) (j : ℕ) → Table i ps → placed i l ps ≡ some j → name-of (some j) ≡ l
+placed-name : (i : ℕ) (l : List ℕ) (ps : List Prefix) (j : ℕ) → Table i ps → placed i l ps ≡ some j → prefix-letters (some j) ≡ l
 unfolding placed
 placed-name i l [] j w e = absurd (none-some e)
 placed-name i l (p ∷ ps) j w e = go (same l (p .name)) refl (placed-name (suc i) l ps j (table-rest w)) e
   where
-    go : (b : Bool) → same l (p .name) ≡ b → (placed (suc i) l ps ≡ some j → name-of (some j) ≡ l) → pick b (some i) (placed (suc i) l ps) ≡ some j
-        → name-of (some j) ≡ l
+    go : (b : Bool) → same l (p .name) ≡ b → (placed (suc i) l ps ≡ some j → prefix-letters (some j) ≡ l) → pick b (some i) (placed (suc i) l ps) ≡ some j
+        → prefix-letters (some j) ≡ l
     go true q ih e = let z : i ≡ j = cc in rw (← z) (sym (same-is l (p .name) q ∙ table-first w))
     go false q ih e = ih e
 
 -- the prefix of a prefix name has that name
-name-named : {p : List ℕ} → PrefixName p → name-of (prefix-named p) ≡ p
+name-named : {p : List ℕ} → PrefixName p → prefix-letters (prefix-named p) ≡ p
 unfolding prefix-name prefix-named
 name-named (PrefixName.named {p = p} t) = go (placed 0 p prefixes) refl t
   where
-    go : (o : Option ℕ) → placed 0 p prefixes ≡ o → T (is-some o) → name-of o ≡ p
+    go : (o : Option ℕ) → placed 0 p prefixes ≡ o → T (is-some o) → prefix-letters o ≡ p
     go none e t = absurd t
     go (some j) e t = placed-name 0 p prefixes j table e
 
@@ -73,7 +73,7 @@ name-named (PrefixName.named {p = p} t) = go (placed 0 p prefixes) refl t
 
 -- a cut of l leaves letters after the prefix's name
 record CutOf (l : List ℕ) (x : Cut) : Type 0 where
-  is : l ≡ name-of (some (x .prefix)) ++ x .rest
+  is : l ≡ prefix-letters (some (x .prefix)) ++ x .rest
   letters : 0 < length (x .rest)
 
 data CutsOf (l : List ℕ) : List Cut → Type 0 where
@@ -88,7 +88,7 @@ cuts-both : {l : List ℕ} {xs ys : List Cut} → CutsOf l xs → CutsOf l ys �
 cuts-both CutsOf.no-cuts b = b
 cuts-both (CutsOf.a-cut h a) b = CutsOf.a-cut h (cuts-both a b)
 
-cut-of : (l : List ℕ) (i : ℕ) (p : Prefix) (o : Option (List ℕ)) → p .name ≡ name-of (some i) → follows (p .name) l ≡ o → CutsOf l (cut-by i o)
+cut-of : (l : List ℕ) (i : ℕ) (p : Prefix) (o : Option (List ℕ)) → p .name ≡ prefix-letters (some i) → follows (p .name) l ≡ o → CutsOf l (cut-by i o)
 unfolding cut-by
 cut-of l i p none q e = CutsOf.no-cuts
 cut-of l i p (some []) q e = CutsOf.no-cuts
@@ -115,22 +115,22 @@ longest-cut CutsOf.no-cuts = CutOr.no-cut
 longest-cut (CutsOf.a-cut {x = x} {xs = xs} h r) = longer-cut x (longest xs) h (longest-cut r)
 
 module _ {l : List ℕ} (h : 0 < length l) (e : past unquoted l ≡ []) where
-  by-longest-spelt : (o : Option Cut) → CutOr l o → Spelt l (by-longest l o)
+  by-longest-spelt : (o : Option Cut) → CutOr l o → SpelledAs l (by-longest l o)
   unfolding by-longest
-  by-longest-spelt none r = Spelt.plain e refl h
-  by-longest-spelt (some x) (CutOr.one-cut g) = Spelt.plain e (g .is) (g .letters)
+  by-longest-spelt none r = SpelledAs.plain e refl h
+  by-longest-spelt (some x) (CutOr.one-cut g) = SpelledAs.plain e (g .is) (g .letters)
 
-  by-cut-spelt : (ks : List KnownCut) → Spelt l (by-cut l ks)
+  by-cut-spelt : (ks : List KnownCut) → SpelledAs l (by-cut l ks)
   unfolding by-cut cuts
   by-cut-spelt [] = by-longest-spelt (longest (cuts l)) (longest-cut (cuts-of 0 prefixes l table))
-  by-cut-spelt (k ∷ ks) = Spelt.is-known
+  by-cut-spelt (k ∷ ks) = SpelledAs.is-known
 
-  by-whole-spelt : (n : ℕ) (o : Option ℕ) → Spelt l (by-whole n l o)
+  by-whole-spelt : (n : ℕ) (o : Option ℕ) → SpelledAs l (by-whole n l o)
   unfolding by-whole
   by-whole-spelt n none = by-cut-spelt (known-cuts n l)
-  by-whole-spelt n (some u) = Spelt.is-known
+  by-whole-spelt n (some u) = SpelledAs.is-known
 
-  plain-spelt : (n : ℕ) → Spelt l (symbol n l)
+  plain-spelt : (n : ℕ) → SpelledAs l (symbol n l)
   unfolding symbol by-quote
   plain-spelt n = rw e (by-whole-spelt n (unit-named n l))
 
@@ -147,33 +147,33 @@ some-letter : {l : List ℕ} → Letters l → 0 < length l
 some-letter (Letters.letters t u) = omega arith
 
 -- letters in quotes, after a prefix name or nothing
-quoted-spelt : (n : ℕ) (p l : List ℕ) → name-of (prefix-named p) ≡ p → T (all unquoted p) → Letters l
-    → Spelt (p ++ (quote ∷ (l ++ (quote ∷ [])))) (symbol n (p ++ (quote ∷ (l ++ (quote ∷ [])))))
+quoted-spelt : (n : ℕ) (p l : List ℕ) → prefix-letters (prefix-named p) ≡ p → T (all unquoted p) → Letters l
+    → SpelledAs (p ++ (quote ∷ (l ++ (quote ∷ [])))) (symbol n (p ++ (quote ∷ (l ++ (quote ∷ [])))))
 unfolding symbol by-quote
 quoted-spelt n p l q t d =
     let a : run unquoted (p ++ (quote ∷ (l ++ (quote ∷ [])))) ≡ p = run-of unquoted p (quote ∷ (l ++ (quote ∷ []))) t (Stops.other refl) in
     let z : past unquoted (p ++ (quote ∷ (l ++ (quote ∷ [])))) ≡ quote ∷ (l ++ (quote ∷ [])) = past-of unquoted p (quote ∷ (l ++ (quote ∷ []))) t (Stops.other refl) in
     let m : run unquoted (l ++ (quote ∷ [])) ≡ l = run-of unquoted l (quote ∷ []) (letters-unquoted l (letters-all d)) (Stops.other refl) in
-    rw (a, z, m) (Spelt.in-quotes (a ∙ sym q) z (some-letter d))
+    rw (a, z, m) (SpelledAs.in-quotes (a ∙ sym q) z (some-letter d))
 
-no-name : name-of (prefix-named []) ≡ []
+no-name : prefix-letters (prefix-named []) ≡ []
 unfolding symbols-compute
 no-name = refl
 
-spelling-spelt : (n : ℕ) {r : Rules} {l : List ℕ} → SpellingBy r l → Spelt l (symbol n l)
+spelling-spelt : (n : ℕ) {r : Rules} {l : List ℕ} → SpellingBy r l → SpelledAs l (symbol n l)
 unfolding past all
 spelling-spelt n (SpellingBy.letters {l = l} d) =
     plain-spelt (some-letter d) (ap (past unquoted) (sym (append-nil l)) ∙ past-of unquoted l [] (letters-unquoted l (letters-all d)) Stops.end) n
 spelling-spelt n (SpellingBy.percent e) = plain-spelt (omega arith) refl n
 spelling-spelt n (SpellingBy.quoted e (Quoted.quoted {l = l} d)) = quoted-spelt n [] l no-name tt d
 spelling-spelt n (SpellingBy.quoted e (Quoted.prefixed {p = p} {l = l} w d)) =
-    rw (append-assoc p (quote ∷ l) (quote ∷ [])) (quoted-spelt n p l (name-named w) (letters-unquoted p (letters-all (prefix-letters w))) d)
+    rw (append-assoc p (quote ∷ l) (quote ∷ [])) (quoted-spelt n p l (name-named w) (letters-unquoted p (letters-all (prefix-lettered w))) d)
 
 -- DERIVATIONS
 
 data AllSpell : List Part → Type 0 where
   none-spells : AllSpell []
-  spells : {p : Part} {ps : List Part} → ((n : ℕ) → Spelt (p .spelling) (symbol n (p .spelling))) → AllSpell ps → AllSpell (p ∷ ps)
+  spells : {p : Part} {ps : List Part} → ((n : ℕ) → SpelledAs (p .spelling) (symbol n (p .spelling))) → AllSpell ps → AllSpell (p ∷ ps)
 
 joined : {ps qs : List Part} → AllSpell ps → AllSpell qs → AllSpell (ps ++ qs)
 joined AllSpell.none-spells es = es
@@ -207,7 +207,7 @@ pub record TermSpelt (s : List ℕ) (t : Term) : Type 0 where
   pub spelling : List ℕ
   pub there : take (t .size) (drop (t .start) s) ≡ spelling
   pub sized : t .size ≡ length spelling
-  pub spelt : Spelt spelling (t .symbol)
+  pub spelt : SpelledAs spelling (t .symbol)
 
 pub data AllSpelt (s : List ℕ) : List Term → Type 0 where
   none-spelt : AllSpelt s []
@@ -232,13 +232,13 @@ reading-spelt n s = go (answer-of n s)
 -- THE PLACE OF THE LETTERS
 
 module _ (p : Option ℕ) (m : List ℕ) (size : ℕ) where
-  pub before-plain : size ≡ length (name-of p) + length m → before-letters p m size ≡ length (name-of p)
+  pub before-plain : size ≡ length (prefix-letters p) + length m → before-letters p m size ≡ length (prefix-letters p)
   unfolding before-letters
-  before-plain e = rw (le-ltb (length (name-of p) + length m) size (omega arith)) (omega arith)
+  before-plain e = rw (le-ltb (length (prefix-letters p) + length m) size (omega arith)) (omega arith)
 
-  pub before-quoted : size ≡ length (name-of p) + suc (length m + 1) → before-letters p m size ≡ length (name-of p) + 1
+  pub before-quoted : size ≡ length (prefix-letters p) + suc (length m + 1) → before-letters p m size ≡ length (prefix-letters p) + 1
   unfolding before-letters
-  before-quoted e = rw (lt-ltb (length (name-of p) + length m) size (omega arith))
+  before-quoted e = rw (lt-ltb (length (prefix-letters p) + length m) size (omega arith))
 
 -- bytes of a spelling are bytes of the label
 in-label : (s : List ℕ) (start size b k : ℕ) {l : List ℕ} → take size (drop start s) ≡ l → b + k ≤ size → take k (drop (start + b) s) ≡ take k (drop b l)
@@ -246,19 +246,19 @@ in-label s start size b k e h =
     rw (← e, drop-take b size (drop start s), take-take k (size - b) (drop b (drop start s)) (omega arith), drop-drop b start s)
 
 module _ (s : List ℕ) (start size : ℕ) {l : List ℕ} (e : take size (drop start s) ≡ l) (q : size ≡ length l) where
-  letters-spelt : (x : Symbol) → Spelt l x → take (length (letters-of x)) (drop (letters-from x start size) s) ≡ letters-of x
+  letters-spelt : (x : Symbol) → SpelledAs l x → take (length (letters-of x)) (drop (letters-from x start size) s) ≡ letters-of x
   unfolding letters-of letters-from
-  letters-spelt (known p u) Spelt.is-known = refl
-  letters-spelt (unknown p m) (Spelt.plain w i h) =
-      let z : size ≡ length (name-of p) + length m = q ∙ ap length i ∙ length-append (name-of p) m in
-      rw (before-plain p m size z, in-label s start size (length (name-of p)) (length m) e (omega arith), i, drop-at (name-of p) m (length (name-of p)) refl)
+  letters-spelt (known p u) SpelledAs.is-known = refl
+  letters-spelt (unknown p m) (SpelledAs.plain w i h) =
+      let z : size ≡ length (prefix-letters p) + length m = q ∙ ap length i ∙ length-append (prefix-letters p) m in
+      rw (before-plain p m size z, in-label s start size (length (prefix-letters p)) (length m) e (omega arith), i, drop-at (prefix-letters p) m (length (prefix-letters p)) refl)
       (ap (take (length m)) (sym (append-nil m)) ∙ take-at m [] (length m) refl)
-  letters-spelt (unknown p m) (Spelt.in-quotes r w h) =
-      let i : l ≡ name-of p ++ (quote ∷ (m ++ (quote ∷ []))) = run-past unquoted l ∙ rw (r, w) in
-      let z : size ≡ length (name-of p) + suc (length m + 1) = q ∙ ap length i ∙ length-append (name-of p) (quote ∷ (m ++ (quote ∷ []))) ∙ ap (λ (k : ℕ). length (name-of p) + suc k) (length-append m (quote ∷ [])) in
-      let d : drop (length (name-of p) + 1) (name-of p ++ (quote ∷ (m ++ (quote ∷ [])))) ≡ m ++ (quote ∷ []) =
-      rw (← drop-drop 1 (length (name-of p)) (name-of p ++ (quote ∷ (m ++ (quote ∷ [])))), drop-at (name-of p) (quote ∷ (m ++ (quote ∷ []))) (length (name-of p)) refl) in
-      rw (before-quoted p m size z, in-label s start size (length (name-of p) + 1) (length m) e (omega arith), i, d) (take-at m (quote ∷ []) (length m) refl)
+  letters-spelt (unknown p m) (SpelledAs.in-quotes r w h) =
+      let i : l ≡ prefix-letters p ++ (quote ∷ (m ++ (quote ∷ []))) = run-past unquoted l ∙ rw (r, w) in
+      let z : size ≡ length (prefix-letters p) + suc (length m + 1) = q ∙ ap length i ∙ length-append (prefix-letters p) (quote ∷ (m ++ (quote ∷ []))) ∙ ap (λ (k : ℕ). length (prefix-letters p) + suc k) (length-append m (quote ∷ [])) in
+      let d : drop (length (prefix-letters p) + 1) (prefix-letters p ++ (quote ∷ (m ++ (quote ∷ [])))) ≡ m ++ (quote ∷ []) =
+      rw (← drop-drop 1 (length (prefix-letters p)) (prefix-letters p ++ (quote ∷ (m ++ (quote ∷ [])))), drop-at (prefix-letters p) (quote ∷ (m ++ (quote ∷ []))) (length (prefix-letters p)) refl) in
+      rw (before-quoted p m size z, in-label s start size (length (prefix-letters p) + 1) (length m) e (omega arith), i, d) (take-at m (quote ∷ []) (length m) refl)
 
 -- the letters of every term are at their place
 pub letters-there : (n : ℕ) (s : List ℕ)

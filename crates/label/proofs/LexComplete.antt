@@ -186,9 +186,9 @@ placed-lettered i l (p ∷ ps) t e = go (same l (p .name)) refl (both (some-lett
     go false q w ih e = ih (w .1) e
 
 -- a prefix name is letters
-pub prefix-letters : {p : List ℕ} → PrefixName p → Letters p
+pub prefix-lettered : {p : List ℕ} → PrefixName p → Letters p
 unfolding prefix-name prefix-named some-letters
-prefix-letters (PrefixName.named {p = p} t) = go p (placed-lettered 0 p prefixes prefixes-lettered t)
+prefix-lettered (PrefixName.named {p = p} t) = go p (placed-lettered 0 p prefixes prefixes-lettered t)
   where
     go : (l : List ℕ) → T (some-letters l) → Letters l
     go [] t = absurd t
@@ -231,7 +231,7 @@ unfolding spelling letter
 quoted-spelling r f (Quoted.quoted {l = l} q) rest = rw (f, append-assoc l (quote ∷ []) rest) (quoted-complete [] q rest)
 quoted-spelling r f (Quoted.prefixed {p = p} {l = l} n q) rest =
     rw (append-assoc (p ++ quote ∷ l) (quote ∷ []) rest, append-assoc p (quote ∷ l) (quote ∷ rest))
-    (lettered-run r (prefix-letters n) (quote ∷ l ++ quote ∷ rest) (Stops.other refl) ∙ prefixed-complete r p (l ++ quote ∷ rest) f n ∙ quoted-complete p q rest)
+    (lettered-run r (prefix-lettered n) (quote ∷ l ++ quote ∷ rest) (Stops.other refl) ∙ prefixed-complete r p (l ++ quote ∷ rest) f n ∙ quoted-complete p q rest)
 
 pub spelling-complete : (r : Rules) {l : List ℕ} → SpellingBy r l → (rest : List ℕ) → Unlettered rest → spelling r (l ++ rest) ≡ found l rest
 unfolding spelling letter

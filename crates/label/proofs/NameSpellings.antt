@@ -13,7 +13,7 @@ use Rattle.label.specs.Bytes.{same, letter, all, percent}
 use Rattle.label.specs.Units.{Name, KnownUnit, units, unit-at}
 use Rattle.label.specs.Symbols.{known, has-name}
 use Rattle.label.specs.Lexical.{Letters}
-use Rattle.label.specs.Writing.{prefix-letters}
+use Rattle.label.specs.Letters.{prefix-letters}
 use Rattle.label.proofs.Basics.{false-true, both, T→true, true→T, same-is}
 use Rattle.label.proofs.Computing.{symbols-compute}
 use Rattle.label.proofs.General.{SpellingBy}
@@ -50,9 +50,9 @@ row-spelled (u ∷ us) zero d t h = both (all-lettered (u .names) || percent-row
 row-spelled (u ∷ us) (suc i) d t h = row-spelled us i d (both (all-lettered (u .names) || percent-row (u .names)) (rows-spelled us) t .1) h
 
 -- a name of a row
-pub data Spelt (m : ℕ) (xs : List Name) (l : List ℕ) : Type 0 where
-  in-letters : Letters l → Spelt m xs l
-  in-percent : m ≡ cds → l ≡ percent ∷ [] → ((n : ℕ) (k : List ℕ) → has-name n k xs ≡ true → k ≡ percent ∷ []) → Spelt m xs l
+pub data NameSpelled (m : ℕ) (xs : List Name) (l : List ℕ) : Type 0 where
+  in-letters : Letters l → NameSpelled m xs l
+  in-percent : m ≡ cds → l ≡ percent ∷ [] → ((n : ℕ) (k : List ℕ) → has-name n k xs ≡ true → k ≡ percent ∷ []) → NameSpelled m xs l
 
 lettered-name : (m : ℕ) (l : List ℕ) (xs : List Name) → T (all-lettered xs) → has-name m l xs ≡ true → Letters l
 unfolding all-lettered has-name
@@ -86,22 +86,22 @@ three-member m (n ∷ []) t h = go (eqb m n) refl h
     go false e h = absurd (false-true h)
 three-member m (n ∷ k ∷ ns) t h = absurd t
 
-percent-name : (m : ℕ) (l : List ℕ) (xs : List Name) → T (percent-row xs) → has-name m l xs ≡ true → Spelt m xs l
+percent-name : (m : ℕ) (l : List ℕ) (xs : List Name) → T (percent-row xs) → has-name m l xs ≡ true → NameSpelled m xs l
 unfolding percent-row
 percent-name m l [] t h = absurd t
 percent-name m l (x ∷ []) t h =
     let w = both (same (x .letters) (percent ∷ [])) (only-cds (x .known-in)) t in
     let q = same-is (x .letters) (percent ∷ []) (T→true (same (x .letters) (percent ∷ [])) (w .0)) in
     let n = single-name m l x h in
-    Spelt.in-percent (three-member m (x .known-in) (w .1) (n .1)) (n .0 ∙ q) (λ i k g. single-name i k x g .0 ∙ q)
+    NameSpelled.in-percent (three-member m (x .known-in) (w .1) (n .1)) (n .0 ∙ q) (λ i k g. single-name i k x g .0 ∙ q)
 percent-name m l (x ∷ y ∷ xs) t h = absurd t
 
-pub name-spelt : (m u : ℕ) (l : List ℕ) → has-name m l (unit-at u .names) ≡ true → Spelt m (unit-at u .names) l
+pub name-spelt : (m u : ℕ) (l : List ℕ) → has-name m l (unit-at u .names) ≡ true → NameSpelled m (unit-at u .names) l
 unfolding all-lettered
 name-spelt m u l h = go (all-lettered (unit-at u .names)) (percent-row (unit-at u .names)) refl refl (row-spelled units u _ units-spelled tt)
   where
-    go : (a b : Bool) → all-lettered (unit-at u .names) ≡ a → percent-row (unit-at u .names) ≡ b → T (a || b) → Spelt m (unit-at u .names) l
-    go true b e f t = Spelt.in-letters (lettered-name m l (unit-at u .names) (true→T e) h)
+    go : (a b : Bool) → all-lettered (unit-at u .names) ≡ a → percent-row (unit-at u .names) ≡ b → T (a || b) → NameSpelled m (unit-at u .names) l
+    go true b e f t = NameSpelled.in-letters (lettered-name m l (unit-at u .names) (true→T e) h)
     go false true e f t = percent-name m l (unit-at u .names) (true→T f) h
     go false false e f t = absurd t
 
@@ -116,7 +116,7 @@ percent-flag {m} o e = o .percent ∙ eq-eqb m 3 e
 pub name-derived : {m : ℕ} {r : Rules} {own : List ℕ} (p : Option ℕ) (u : ℕ) (l : List ℕ) → RuledBy m r → Sourced own (known p u) → has-name m l (unit-at u .names) ≡ true → SpellingBy r (prefix-letters p ++ l)
 name-derived {m} {r} {own} p u l o s h = go (name-spelt m u l h) s
   where
-    go : {q : Option ℕ} → Spelt m (unit-at u .names) l → Sourced own (known q u) → SpellingBy r (prefix-letters q ++ l)
-    go {q} (Spelt.in-letters d) s = SpellingBy.letters (letters-prefixed q d)
-    go (Spelt.in-percent e f g) (Sourced.bare-name n k) = rw f (SpellingBy.percent (percent-flag o e))
-    go (Spelt.in-percent e f g) (Sourced.letter-name n k d) = absurd (percent-no-letter (rw (g n own k) at d))
+    go : {q : Option ℕ} → NameSpelled m (unit-at u .names) l → Sourced own (known q u) → SpellingBy r (prefix-letters q ++ l)
+    go {q} (NameSpelled.in-letters d) s = SpellingBy.letters (letters-prefixed q d)
+    go (NameSpelled.in-percent e f g) (Sourced.bare-name n k) = rw f (SpellingBy.percent (percent-flag o e))
+    go (NameSpelled.in-percent e f g) (Sourced.letter-name n k d) = absurd (percent-no-letter (rw (g n own k) at d))

@@ -17,7 +17,8 @@ use Rattle.label.specs.Prefixes.{Prefix, prefix, prefixes, placed, prefi
 use Rattle.label.specs.Units.{KnownUnit, bare, ten-to, units, unit-at}
 use Rattle.label.specs.Symbols.{Symbol, known, unknown, has-name, row-named, unit-named, Cut, follows, cut-by, cuts-from, cuts, KnownCut, known-by, known-among, known-cuts, longer, longest, by-longest, by-cut, by-whole, unquoted, by-quote, symbol}
 use Rattle.label.specs.Lexical.{Letters, PrefixName, Quoted}
-use Rattle.label.specs.Writing.{prefix-letters, same-prefix, in-quotes, own-letters}
+use Rattle.label.specs.Letters.{prefix-letters}
+use Rattle.label.specs.Writing.{same-prefix, in-quotes, own-letters}
 use Rattle.label.proofs.Basics.{none-some, false-true, both, T-and, T→true, same-is, differs, Stops, run-of, past-of}
 use Rattle.label.proofs.Computing.{symbols-compute}
 use Rattle.label.proofs.Texts.{all-append, all-weaker}
@@ -92,14 +93,14 @@ no-name = refl
 -- CUTS
 
 -- a cut of l by the prefixes' letters
-record CutOf (names : ℕ → List ℕ) (l : List ℕ) (x : Cut) : Type 0 where
+record NamedCut (names : ℕ → List ℕ) (l : List ℕ) (x : Cut) : Type 0 where
   is : l ≡ names (x .prefix) ++ x .rest
   named : prefix-named (names (x .prefix)) ≡ some (x .prefix)
   some-rest : 1 ≤ length (x .rest)
 
 data AllCuts (names : ℕ → List ℕ) (l : List ℕ) : List Cut → Type 0 where
   no-cuts : AllCuts names l []
-  a-cut : {x : Cut} {xs : List Cut} → CutOf names l x → AllCuts names l xs → AllCuts names l (x ∷ xs)
+  a-cut : {x : Cut} {xs : List Cut} → NamedCut names l x → AllCuts names l xs → AllCuts names l (x ∷ xs)
 
 -- each prefix is found by its name
 in-place : ℕ → List Prefix → Bool
@@ -141,26 +142,26 @@ pub data OwnedBy (n : ℕ) (s : List ℕ) : Symbol → Type 0 where
   by-letters : {p : Option ℕ} {l : List ℕ} → s ≡ prefix-letters p ++ l → prefix-named (prefix-letters p) ≡ p → 1 ≤ length l → OwnedBy n s (unknown p l)
 
 -- the longest cut is one
-longest-cut : (l : List ℕ) {xs : List Cut} → AllCuts letters-at l xs → (x : Cut) → longest xs ≡ some x → CutOf letters-at l x
+longest-cut : (l : List ℕ) {xs : List Cut} → AllCuts letters-at l xs → (x : Cut) → longest xs ≡ some x → NamedCut letters-at l x
 unfolding longest longer
 longest-cut l AllCuts.no-cuts x h = absurd (none-some h)
 longest-cut l (AllCuts.a-cut {x = y} {xs = ys} w ws) x h = go (longest ys) (λ z e. longest-cut l ws z e) h
   where
-    at : (z : Cut) → some z ≡ some x → CutOf letters-at l z → CutOf letters-at l x
+    at : (z : Cut) → some z ≡ some x → NamedCut letters-at l z → NamedCut letters-at l x
     at z e d = let q : z ≡ x = cc in rw (← q) d
 
-    go : (o : Option Cut) → ((z : Cut) → o ≡ some z → CutOf letters-at l z) → longer y o ≡ some x → CutOf letters-at l x
+    go : (o : Option Cut) → ((z : Cut) → o ≡ some z → NamedCut letters-at l z) → longer y o ≡ some x → NamedCut letters-at l x
     go none ih h = at y h w
     go (some z) ih h = two (leb (length (y .rest)) (length (z .rest))) h
       where
-        two : (b : Bool) → pick b (some y) (some z) ≡ some x → CutOf letters-at l x
+        two : (b : Bool) → pick b (some y) (some z) ≡ some x → NamedCut letters-at l x
         two true h = at y h w
         two false h = at z h (ih z refl)
 
 -- the first cut with a known rest
 data FirstKnown (n : ℕ) (l : List ℕ) : List KnownCut → Type 0 where
   none-known : FirstKnown n l []
-  first-known : {x : KnownCut} {xs : List KnownCut} → CutOf letters-at l (x .cut) → unit-named n (x .cut .rest) ≡ some (x .unit) → FirstKnown n l (x ∷ xs)
+  first-known : {x : KnownCut} {xs : List KnownCut} → NamedCut letters-at l (x .cut) → unit-named n (x .cut .rest) ≡ some (x .unit) → FirstKnown n l (x ∷ xs)
 
 known-first : (n : ℕ) (l : List ℕ) {xs : List Cut} → AllCuts letters-at l xs → FirstKnown n l (known-among n xs)
 unfolding known-among known-by

@@ -34,20 +34,20 @@ bounds (six c) = omega arith
 bounds (seven c) = omega arith
 
 -- no condition before k holds
-abbrev Clear : ℕ → ℕ → List ℕ → Type 0
-Clear k n s = (j : ℕ) → j < k → Condition j n s → ⊥
+abbrev ClearBefore : ℕ → ℕ → List ℕ → Type 0
+ClearBefore k n s = (j : ℕ) → j < k → Condition j n s → ⊥
 
-clear-first : (n : ℕ) (s : List ℕ) → Clear 1 n s
+clear-first : (n : ℕ) (s : List ℕ) → ClearBefore 1 n s
 clear-first n s j h c = omega (arith, bounds c)
 
-clear-next : {k n : ℕ} {s : List ℕ} → Clear k n s → (Condition k n s → ⊥) → Clear (suc k) n s
+clear-next : {k n : ℕ} {s : List ℕ} → ClearBefore k n s → (Condition k n s → ⊥) → ClearBefore (suc k) n s
 clear-next {k} {n} {s} h g j l c = go (ℕ-discrete j k)
   where
     go : Dec (j ≡ k) → ⊥
     go (yes e) = g (rw e at c)
     go (no e) = h j (omega arith) c
 
-clear-all : {n : ℕ} {s : List ℕ} → Clear 8 n s → (i : ℕ) → Condition i n s → ⊥
+clear-all : {n : ℕ} {s : List ℕ} → ClearBefore 8 n s → (i : ℕ) → Condition i n s → ⊥
 clear-all h i c = h i (omega (arith, bounds c)) c
 
 -- THE OUTCOME OF CHECKING
@@ -128,7 +128,7 @@ module _ {n : ℕ} {s : List ℕ} where
 
 module _ (n : ℕ) (s : List ℕ) where
   -- refusals 6 and 7
-  counts-outcome : (f : Factor) (ps : List Part) (v : Valued) → Derives n s f ps → valued f ps ≡ some v → Clear 6 n s → Outcome n s (check-counts s v)
+  counts-outcome : (f : Factor) (ps : List Part) (v : Valued) → Derives n s f ps → valued f ps ≡ some v → ClearBefore 6 n s → Outcome n s (check-counts s v)
   unfolding check-counts unless
   counts-outcome f ps v d e c = go (leb (deepest s) most-brackets) (leb (length (v .units)) most-terms) refl refl
     where
@@ -142,13 +142,13 @@ module _ (n : ℕ) (s : List ℕ) where
       go true true p q = Outcome.accepting (clear-all (clear-next (clear-next c (pass-6 p)) (pass-7 d e q))) f ps d e
 
   -- refusal 5
-  values-outcome : (f : Factor) (ps : List Part) (o : Option Valued) → Derives n s f ps → valued f ps ≡ o → Clear 5 n s → Outcome n s (check-values s o)
+  values-outcome : (f : Factor) (ps : List Part) (o : Option Valued) → Derives n s f ps → valued f ps ≡ o → ClearBefore 5 n s → Outcome n s (check-values s o)
   unfolding check-values
   values-outcome f ps none d e c = Outcome.refusing (record { holds = five (f, ps, d, e); earliest = c })
   values-outcome f ps (some v) d e c = counts-outcome f ps v d e (clear-next c (pass-5 d e))
 
   -- refusal 4
-  grammar-outcome : (o : Parsed) → parse n s ≡ o → Clear 4 n s → Outcome n s (check-grammar s o)
+  grammar-outcome : (o : Parsed) → parse n s ≡ o → ClearBefore 4 n s → Outcome n s (check-grammar s o)
   unfolding check-grammar
   grammar-outcome refused e c = Outcome.refusing (record { holds = four (refused-underived n s e); earliest = c })
   grammar-outcome (parsed f ps) e c =

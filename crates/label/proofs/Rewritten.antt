@@ -22,7 +22,8 @@ use Rattle.label.specs.Limits.{signed, negative, number, exponent-of, k-
 use Rattle.label.specs.Split.{Placed, valued-unit, valued-units, valued-with, valued}
 use Rattle.label.specs.Reading.{term, Reading, reading-of, accept, unless, check-counts, check-values, check-grammar, checked, answered, reading}
 use Rattle.label.specs.Agreement.{Raised, raised-term}
-use Rattle.label.specs.Writing.{sign, figures, factor-text, exponent-text, prefix-letters, name-in, named-text, symbol-text, own-letters, writable, written-reading, Writable, both-texts, unit-text, more-text, label-text, written-by, written}
+use Rattle.label.specs.Letters.{prefix-letters}
+use Rattle.label.specs.Writing.{sign-text, figures, factor-text, exponent-text, name-in, named-text, symbol-text, own-letters, writable, written-reading, Writable, both-texts, unit-text, more-text, label-text, written-by, written}
 use Rattle.label.specs.Rows.{Style, style-of}
 use Rattle.label.proofs.Basics.{none-some, T→true}
 use Rattle.label.proofs.General.{G, LabelBy}
@@ -34,19 +35,19 @@ use Rattle.label.proofs.Places.{Located, AllLocated, label-located, loc
 use Rattle.label.proofs.Figures.{Digited, figures-of, signed-size}
 use Rattle.label.proofs.Texts.{quiet, unsigned-quiet, spelling-quiet, Fine, fine-quiet, fine-append, fine-deepest}
 use Rattle.label.proofs.Styles.{Suits}
-use Rattle.label.proofs.Spelled.{PowerRead, Within, exponent-read, SpellingRead, name-named, NamedText, named-parts, symbol-read}
+use Rattle.label.proofs.Spelled.{PowerRead, WithinBounds, exponent-read, SpellingRead, name-named, NamedText, named-parts, symbol-read}
 use Rattle.label.proofs.Owned.{Sourced}
 
 -- TWO TEXTS
 
-pub record Both (a b : Option (List ℕ)) (t : List ℕ) : Type 0 where
+pub record BothTexts (a b : Option (List ℕ)) (t : List ℕ) : Type 0 where
   pub one : List ℕ
   pub two : List ℕ
   pub first : a ≡ some one
   pub second : b ≡ some two
   pub is : one ++ two ≡ t
 
-pub both-of : (a b : Option (List ℕ)) (t : List ℕ) → both-texts a b ≡ some t → Both a b t
+pub both-of : (a b : Option (List ℕ)) (t : List ℕ) → both-texts a b ≡ some t → BothTexts a b t
 unfolding both-texts
 both-of none b t h = absurd (none-some h)
 both-of (some s) none t h = absurd (none-some h)
@@ -55,8 +56,8 @@ both-of (some s) (some u) t h = record { one = s; two = u; first = refl; second 
 -- UNITS
 
 -- a unit of an accepted label: its exponent keeps the bounds, and its letters are those of its name
-pub record Ready (w : Writable) : Type 0 where
-  pub within : Within (w .exponent)
+pub record ReadyToWrite (w : Writable) : Type 0 where
+  pub within : WithinBounds (w .exponent)
   pub sourced : Sourced (w .own) (w .symbol)
 
 -- a text that is read as the unit w
@@ -68,7 +69,7 @@ record UnitRead (y : Style) (m : ℕ) (r : Rules) (w : Writable) (t : List ℕ) 
   is : spelling ++ raised ≡ t
   text : symbol-text y m (w .own) (w .symbol) ≡ some spelling
 
-unit-read : {y : Style} {r : Rules} {m : ℕ} → Suits y r → RuledBy m r → (w : Writable) → Ready w → (t : List ℕ) → unit-text y m w ≡ some t → UnitRead y m r w t
+unit-read : {y : Style} {r : Rules} {m : ℕ} → Suits y r → RuledBy m r → (w : Writable) → ReadyToWrite w → (t : List ℕ) → unit-text y m w ≡ some t → UnitRead y m r w t
 unfolding unit-text
 unit-read {y} {m = m} v o w i t h =
     let d = both-of (symbol-text y m (w .own) (w .symbol)) (exponent-text y (w .exponent)) t h in
@@ -82,20 +83,20 @@ unit-read {y} {m = m} v o w i t h =
     }
 
 -- the parts ps are read as the units ws
-pub data Answers (y : Style) (m : ℕ) : List Part → List Writable → Type 0 where
-  nothing : Answers y m [] []
+pub data UnitsRead (y : Style) (m : ℕ) : List Part → List Writable → Type 0 where
+  nothing : UnitsRead y m [] []
   next : {p : Part} {ps : List Part} {w : Writable} {ws : List Writable} → symbol m (p .spelling) ≡ w .symbol → exponent-of (p .turned) (p .power) ≡ some (w .exponent)
-      → symbol-text y m (w .own) (w .symbol) ≡ some (p .spelling) → Answers y m ps ws → Answers y m (p ∷ ps) (w ∷ ws)
+      → symbol-text y m (w .own) (w .symbol) ≡ some (p .spelling) → UnitsRead y m ps ws → UnitsRead y m (p ∷ ps) (w ∷ ws)
 
 pub data AllReady : List Writable → Type 0 where
   done : AllReady []
-  also : {w : Writable} {ws : List Writable} → Ready w → AllReady ws → AllReady (w ∷ ws)
+  also : {w : Writable} {ws : List Writable} → ReadyToWrite w → AllReady ws → AllReady (w ∷ ws)
 
 -- what follows the first unit
 record MoreRead (y : Style) (m : ℕ) (r : Rules) (ws : List Writable) (t : List ℕ) : Type 0 where
   parts : List Part
   derived : G r more t [] parts
-  answers : Answers y m parts ws
+  answers : UnitsRead y m parts ws
   fine : Fine t
 
 -- an item and what follows it
@@ -105,9 +106,9 @@ item-derived d t = rw (← (d .is), append-assoc (d .spelling) (d .raised) t) (G
 unit-fine : {y : Style} {m : ℕ} {r : Rules} {w : Writable} {s : List ℕ} → UnitRead y m r w s → Fine s
 unit-fine d = rw (← (d .is)) (fine-append (fine-quiet (d .spelling) (spelling-quiet (d .spelled .derived))) (d .power .fine))
 
-unit-answers : {y : Style} {m : ℕ} {r : Rules} {w : Writable} {s : List ℕ} {ps : List Part} {ws : List Writable} → (d : UnitRead y m r w s) → (t : List ℕ) → Answers y m ps ws
-    → Answers y m (part (d .spelling) (d .power .power) t ∷ ps) (w ∷ ws)
-unit-answers d t a = Answers.next (d .spelled .is) (d .power .value) (d .text) a
+unit-answers : {y : Style} {m : ℕ} {r : Rules} {w : Writable} {s : List ℕ} {ps : List Part} {ws : List Writable} → (d : UnitRead y m r w s) → (t : List ℕ) → UnitsRead y m ps ws
+    → UnitsRead y m (part (d .spelling) (d .power .power) t ∷ ps) (w ∷ ws)
+unit-answers d t a = UnitsRead.next (d .spelled .is) (d .power .value) (d .text) a
 
 -- a unit after what joins it
 joined : {y : Style} {r : Rules} {m : ℕ} {w : Writable} {ws : List Writable} {s t : List ℕ} → Suits y r → UnitRead y m r w s → MoreRead y m r ws t → MoreRead y m r (w ∷ ws) (y .joint ++ (s ++ t))
@@ -123,7 +124,7 @@ more-read : {y : Style} {r : Rules} {m : ℕ} → Suits y r → RuledBy m r → 
 unfolding more-text all
 more-read v o AllReady.done t h =
     let e : [] ≡ t = cc in
-    rw (← e) (record { parts = []; derived = G.done; answers = Answers.nothing; fine = fine-quiet [] tt })
+    rw (← e) (record { parts = []; derived = G.done; answers = UnitsRead.nothing; fine = fine-quiet [] tt })
 more-read {y} {m = m} v o (AllReady.also {w = w} {ws = ws} i is) t h =
     let b = both-of (some (y .joint)) (both-texts (unit-text y m w) (more-text y m ws)) t h in
     let c = both-of (unit-text y m w) (more-text y m ws) (b .two) (b .second) in
@@ -133,11 +134,11 @@ more-read {y} {m = m} v o (AllReady.also {w = w} {ws = ws} i is) t h =
 -- LABELS
 
 -- a text that is read as the units ws with the power k of ten
-pub record LabelRead (y : Style) (m : ℕ) (r : Rules) (k : Tens) (ws : List Writable) (t : List ℕ) : Type 0 where
+pub record LabelReadBack (y : Style) (m : ℕ) (r : Rules) (k : Tens) (ws : List Writable) (t : List ℕ) : Type 0 where
   pub factor : Factor
   pub parts : List Part
   pub derived : LabelBy r t factor parts
-  pub answers : Answers y m parts ws
+  pub answers : UnitsRead y m parts ws
   pub power : k-of factor ≡ some k
   pub fine : Fine t
 
@@ -147,7 +148,7 @@ product-derived {t = t} u x = G.plain (G.first {ps = part (u .spelling) (u .powe
 
 -- without a factor
 plain-label : {y : Style} {m : ℕ} {r : Rules} {w : Writable} {ws : List Writable} {s t : List ℕ} (k : Tens) → k ≡ record { 0 = pos 0 } → UnitRead y m r w s → MoreRead y m r ws t
-    → LabelRead y m r k (w ∷ ws) (s ++ t)
+    → LabelReadBack y m r k (w ∷ ws) (s ++ t)
 unfolding k-of
 plain-label {s = s} {t = t} k e u x = record {
   factor = no-factor;
@@ -161,7 +162,7 @@ plain-label {s = s} {t = t} k e u x = record {
     begun : {r : Rules} {a b : List ℕ} {ps : List Part} → G r item a b ps → Unspaced a
     begun d = let o = opens (item-begins d) in rw (o .is) (unspaced (o .opener .no-space))
 
-sign-quiet : (a b : Bool) → T (all quiet (sign a b))
+sign-quiet : (a b : Bool) → T (all quiet (sign-text a b))
 unfolding all quiet admitted
 sign-quiet a true = tt
 sign-quiet true false = tt
@@ -172,11 +173,11 @@ unfolding k-of
 factor-value z ds d h = rw (d .short, d .value, le-leb (natAbs z) 99 h, signed-size z)
 
 factored-label : {y : Style} {m : ℕ} {r : Rules} {w : Writable} {ws : List Writable} {s t : List ℕ} (k : Tens) → Suits y r → 1 ≤ natAbs (k .0) → natAbs (k .0) ≤ 99 → UnitRead y m r w s → MoreRead y m r ws t
-    → LabelRead y m r k (w ∷ ws) (((y .ten ++ (sign (y .signed) (negative (k .0)) ++ figures (natAbs (k .0)))) ++ y .gap) ++ (s ++ t))
+    → LabelReadBack y m r k (w ∷ ws) (((y .ten ++ (sign-text (y .signed) (negative (k .0)) ++ figures (natAbs (k .0)))) ++ y .gap) ++ (s ++ t))
 factored-label {y} {s = s} {t = t} k v low high u x = record {
   factor = ten-to (record { negative = negative (k .0); digits = figures (natAbs (k .0)) });
   parts = part (u .spelling) (u .power .power) (u .raised ++ t) ∷ x .parts;
-  derived = rw (append-assoc (y .ten ++ (sign (y .signed) (negative (k .0)) ++ figures (natAbs (k .0)))) (y .gap) (s ++ t))
+  derived = rw (append-assoc (y .ten ++ (sign-text (y .signed) (negative (k .0)) ++ figures (natAbs (k .0)))) (y .gap) (s ++ t))
       (LabelBy.factored (v .may-lead) (v .factor (negative (k .0)) (d .unsigned)) (v .gap) (product-derived u x));
   answers = unit-answers u (u .raised ++ t) (x .answers);
   power = factor-value (k .0) (figures (natAbs (k .0))) d high;
@@ -186,8 +187,8 @@ factored-label {y} {s = s} {t = t} k v low high u x = record {
     d : Digited (natAbs (k .0)) (figures (natAbs (k .0)))
     d = figures-of (natAbs (k .0)) low (omega arith)
 
-    numeral : Fine (sign (y .signed) (negative (k .0)) ++ figures (natAbs (k .0)))
-    numeral = fine-append (fine-quiet (sign (y .signed) (negative (k .0))) (sign-quiet (y .signed) (negative (k .0)))) (fine-quiet (figures (natAbs (k .0))) (unsigned-quiet (d .unsigned)))
+    numeral : Fine (sign-text (y .signed) (negative (k .0)) ++ figures (natAbs (k .0)))
+    numeral = fine-append (fine-quiet (sign-text (y .signed) (negative (k .0))) (sign-quiet (y .signed) (negative (k .0)))) (fine-quiet (figures (natAbs (k .0))) (unsigned-quiet (d .unsigned)))
 
 no-size : (z : ℤ) → natAbs z ≡ 0 → z ≡ pos 0
 no-size (pos n) e = ap pos e
@@ -197,11 +198,11 @@ no-tens : (k : Tens) → natAbs (k .0) ≡ 0 → k ≡ record { 0 = pos 0 }
 no-tens k e = ap {B = Tens} (λ (x : ℤ). record { 0 = x }) (no-size (k .0) e)
 
 pub label-read : {y : Style} {r : Rules} {m : ℕ} → Suits y r → RuledBy m r → (k : Tens) {ws : List Writable} → AllReady ws → natAbs (k .0) ≤ 99 → (ws ≡ [] → k ≡ record { 0 = pos 0 })
-    → (t : List ℕ) → label-text y m k ws ≡ some t → LabelRead y m r k ws t
+    → (t : List ℕ) → label-text y m k ws ≡ some t → LabelReadBack y m r k ws t
 unfolding label-text all factor-text k-of
 label-read v o k AllReady.done high z t h =
     let e : [] ≡ t = cc in
-    rw (← e) (record { factor = no-factor; parts = []; derived = LabelBy.empty; answers = Answers.nothing; power = ap (λ (x : Tens). some x) (sym (z refl)); fine = fine-quiet [] tt })
+    rw (← e) (record { factor = no-factor; parts = []; derived = LabelBy.empty; answers = UnitsRead.nothing; power = ap (λ (x : Tens). some x) (sym (z refl)); fine = fine-quiet [] tt })
 label-read {y} {r} {m} v o k (AllReady.also {w = w} {ws = ws} i is) high z t h =
     let b = both-of (some (factor-text y k)) (both-texts (unit-text y m w) (more-text y m ws)) t h in
     let c = both-of (unit-text y m w) (more-text y m ws) (b .two) (b .second) in
@@ -209,7 +210,7 @@ label-read {y} {r} {m} v o k (AllReady.also {w = w} {ws = ws} i is) high z t h =
     rw (← (b .is), ← e, ← (c .is)) (go (c .one) (c .two) (eqb (natAbs (k .0)) 0) refl (unit-read v o w i (c .one) (c .first)) (more-read v o is (c .two) (c .second)))
   where
     go : (s u : List ℕ) (x : Bool) → eqb (natAbs (k .0)) 0 ≡ x → UnitRead y m r w s → MoreRead y m r ws u
-        → LabelRead y m r k (w ∷ ws) (pick x [] ((y .ten ++ (sign (y .signed) (negative (k .0)) ++ figures (natAbs (k .0)))) ++ y .gap) ++ (s ++ u))
+        → LabelReadBack y m r k (w ∷ ws) (pick x [] ((y .ten ++ (sign-text (y .signed) (negative (k .0)) ++ figures (natAbs (k .0)))) ++ y .gap) ++ (s ++ u))
     go s u true f d x = plain-label k (no-tens k (eqb-true (natAbs (k .0)) 0 f)) d x
     go s u false f d x = factored-label k v (omega (arith, eqb-false (natAbs (k .0)) 0 f)) high d x
 
@@ -262,10 +263,10 @@ term-again : (y : Style) (m : ℕ) {t : List ℕ} {p : Part} (w : Writable) → 
     → symbol-text y m (own-letters (symbol m (p .spelling)) (take (length (p .spelling)) (drop (length t - p .left) t))) (symbol m (p .spelling)) ≡ symbol-text y m (w .own) (w .symbol)
 term-again y m {t} {p} w d s h = rw (located-there d, s) (symbol-again y m (w .own) (w .symbol) (p .spelling) h ∙ sym h)
 
-units-of : {y : Style} {m : ℕ} {t : List ℕ} {ps : List Part} {ws : List Writable} → Answers y m ps ws → AllLocated t ps → Units y m t ps ws
+units-of : {y : Style} {m : ℕ} {t : List ℕ} {ps : List Part} {ws : List Writable} → UnitsRead y m ps ws → AllLocated t ps → Units y m t ps ws
 unfolding valued-units valued-unit term writable
-units-of Answers.nothing AllLocated.none = record { units = []; valued = refl; count = refl; terms = refl; again = Alike.nothing-else }
-units-of {y} {m} (Answers.next {p = p} {w = w} s e h a) (AllLocated.some d ds) =
+units-of UnitsRead.nothing AllLocated.none = record { units = []; valued = refl; count = refl; terms = refl; again = Alike.nothing-else }
+units-of {y} {m} (UnitsRead.next {p = p} {w = w} s e h a) (AllLocated.some d ds) =
     let u = units-of a ds in
     record {
       units = record { spelling = p .spelling; exponent = w .exponent; left = p .left } ∷ u .units;
@@ -275,7 +276,7 @@ units-of {y} {m} (Answers.next {p = p} {w = w} s e h a) (AllLocated.some d ds) =
       again = Alike.alike (term-again y m w d s h) refl (u .again);
     }
 
-label-checked : {y : Style} {m : ℕ} {r : Rules} {k : Tens} {ws : List Writable} {t : List ℕ} → RuledBy m r → (d : LabelRead y m r k ws t) → (u : Units y m t (d .parts) ws) → length t ≤ 255 → length ws ≤ 32
+label-checked : {y : Style} {m : ℕ} {r : Rules} {k : Tens} {ws : List Writable} {t : List ℕ} → RuledBy m r → (d : LabelReadBack y m r k ws t) → (u : Units y m t (d .parts) ws) → length t ≤ 255 → length ws ≤ 32
     → checked m t ≡ accept (record { k = k; units = u .units })
 unfolding checked unless check-grammar check-values check-counts valued valued-with
 label-checked {m} {t = t} o d u h g =
@@ -291,13 +292,13 @@ label-checked {m} {t = t} o d u h g =
     )
 
 -- what reading the text gives
-pub record ReadBack (m : ℕ) (k : Tens) (ws : List Writable) (t : List ℕ) (a : Reading) : Type 0 where
+pub record TextReadBack (m : ℕ) (k : Tens) (ws : List Writable) (t : List ℕ) (a : Reading) : Type 0 where
   pub answers : a .number ≡ 0
   pub power : a .k ≡ k
   pub terms : map raised-term (a .terms) ≡ map raised ws
   pub again : written-reading m t a ≡ written m k ws
 
-label-back : {y : Style} {m : ℕ} {r : Rules} {k : Tens} {ws : List Writable} {t : List ℕ} → style-of m ≡ some y → RuledBy m r → LabelRead y m r k ws t → length t ≤ 255 → length ws ≤ 32 → ReadBack m k ws t (reading m t)
+label-back : {y : Style} {m : ℕ} {r : Rules} {k : Tens} {ws : List Writable} {t : List ℕ} → style-of m ≡ some y → RuledBy m r → LabelReadBack y m r k ws t → length t ≤ 255 → length ws ≤ 32 → TextReadBack m k ws t (reading m t)
 unfolding reading answered reading-of written written-by
 label-back {k = k} {t = t} e o d h g =
     let u = units-of (d .answers) (label-located (d .derived)) in
@@ -306,10 +307,10 @@ label-back {k = k} {t = t} e o d h g =
 -- WHAT IS WRITTEN IS READ BACK
 
 pub written-back : (m : ℕ) (k : Tens) {ws : List Writable} → AllReady ws → natAbs (k .0) ≤ 99 → (ws ≡ [] → k ≡ record { 0 = pos 0 }) → length ws ≤ 32
-    → (t : List ℕ) → length t ≤ 255 → written m k ws ≡ some t → ReadBack m k ws t (reading m t)
+    → (t : List ℕ) → length t ≤ 255 → written m k ws ≡ some t → TextReadBack m k ws t (reading m t)
 unfolding written written-by
 written-back m k {ws} i high z few t short h = go (style-of m) refl h
   where
-    go : (o : Option Style) → style-of m ≡ o → written-by o m k ws ≡ some t → ReadBack m k ws t (reading m t)
+    go : (o : Option Style) → style-of m ≡ o → written-by o m k ws ≡ some t → TextReadBack m k ws t (reading m t)
     go none e h = absurd (none-some h)
     go (some y) e h = let v = suited m y e in label-back e (v .ruled) (label-read (v .suits) (v .ruled) k i high z t h) short few

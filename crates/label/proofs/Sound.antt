@@ -47,7 +47,7 @@ unit-sound r b s ps t h =
     unit-derived r b s (v .value) (v .mid) (x .0) t (w .value) ps (d .0) (x .1) (d .1) (x .2) (w .is)
 
 -- one thing and then another, both found
-record Both (x : Found (List Part)) (g : List ℕ → Found (List Part)) (ps : List Part) (t : List ℕ) : Type 0 where
+record BothFound (x : Found (List Part)) (g : List ℕ → Found (List Part)) (ps : List Part) (t : List ℕ) : Type 0 where
   ps₁ : List Part
   mid : List ℕ
   ps₂ : List Part
@@ -55,7 +55,7 @@ record Both (x : Found (List Part)) (g : List ℕ → Found (List Part)) (ps : L
   two : g mid ≡ found ps₂ t
   joined : ps₁ ++ ps₂ ≡ ps
 
-chained-found : (x : Found (List Part)) (g : List ℕ → Found (List Part)) (ps : List Part) (t : List ℕ) → chained x g ≡ found ps t → Both x g ps t
+chained-found : (x : Found (List Part)) (g : List ℕ → Found (List Part)) (ps : List Part) (t : List ℕ) → chained x g ≡ found ps t → BothFound x g ps t
 unfolding chained appended
 chained-found x g ps t h =
     let v = then-found x _ ps t h in

@@ -33,8 +33,8 @@ use Rattle.label.proofs.Ruled.{RuledBy, derives-by}
 use Rattle.label.proofs.Refusals.{bounds, Values, valued-values, values-length}
 use Rattle.label.proofs.Readings.{Accepted, Answered, answer-of, refused-reading, accepted-reading}
 use Rattle.label.proofs.Figures.{size-signed}
-use Rattle.label.proofs.Spelled.{Within}
-use Rattle.label.proofs.Rewritten.{Ready, AllReady, raised, ReadBack, written-back}
+use Rattle.label.proofs.Spelled.{WithinBounds}
+use Rattle.label.proofs.Rewritten.{ReadyToWrite, AllReady, raised, TextReadBack, written-back}
 
 -- NO POWER IS ZERO
 
@@ -92,11 +92,11 @@ quotient-low n d h e = go (60 * n / d) refl
     go zero f = absurd (omega (arith, div-add-mod' (60 * n) d, ap (λ (x : ℕ). x * d) f))
     go (suc q) f = omega arith
 
-ratio-within : (b : Bool) (q : Ratio) (e : Exponent) → 1 ≤ q .numerator → exponent-in b q ≡ some e → Within e
+ratio-within : (b : Bool) (q : Ratio) (e : Exponent) → 1 ≤ q .numerator → exponent-in b q ≡ some e → WithinBounds e
 unfolding exponent-in
 ratio-within b q e h g = go (bounded q) refl g
   where
-    go : (x : Bool) → bounded q ≡ x → pick x (some (record { 0 = signed (exclusive-or b (q .negative)) (sixtieths q) })) none ≡ some e → Within e
+    go : (x : Bool) → bounded q ≡ x → pick x (some (record { 0 = signed (exclusive-or b (q .negative)) (sixtieths q) })) none ≡ some e → WithinBounds e
     go false p g = absurd (none-some g)
     go true p g =
         let a = and-right (q .short) (in-sixtieths q && leb (sixtieths q) 5_940) p in
@@ -106,7 +106,7 @@ ratio-within b q e h g = go (bounded q) refl g
         let z = size-signed (exclusive-or b (q .negative)) (sixtieths q) in
         rw (← w) (record { low = rw z (quotient-low (q .numerator) (q .denominator) h m); high = rw z l })
 
-exponent-within : (b : Bool) (w : Written) (e : Exponent) → NonZero w → exponent-of b w ≡ some e → Within e
+exponent-within : (b : Bool) (w : Written) (e : Exponent) → NonZero w → exponent-of b w ≡ some e → WithinBounds e
 unfolding exponent-of
 exponent-within b w e h g = ratio-within b (ratio w) e (h .size) g
 
@@ -119,7 +119,7 @@ writable-at n s p e = record {
 }
 
 module _ {n : ℕ} {r : Rules} (o : RuledBy n r) (s : List ℕ) where
-  part-ready : {p : Part} (e : Exponent) → PartBy r p → Located s p → exponent-of (p .turned) (p .power) ≡ some e → Ready (writable-at n s p e)
+  part-ready : {p : Part} (e : Exponent) → PartBy r p → Located s p → exponent-of (p .turned) (p .power) ≡ some e → ReadyToWrite (writable-at n s p e)
   part-ready {p} e d w h = record {
     within = exponent-within (p .turned) (p .power) e (exponent-nonzero (d .raised)) h;
     sourced = rw (located-there w) (spelling-sourced o (d .spelled));
@@ -248,7 +248,7 @@ record Rereads (m : ℕ) (a : Reading) (t : List ℕ) (b : Reading) : Type 0 whe
   content : SameContent a b
   again : written-reading m t b ≡ some t
 
-rereads : (m : ℕ) (s t : List ℕ) (a b : Reading) → written-reading m s a ≡ some t → ReadBack m (a .k) (map (writable s) (a .terms)) t b → Rereads m a t b
+rereads : (m : ℕ) (s t : List ℕ) (a b : Reading) → written-reading m s a ≡ some t → TextReadBack m (a .k) (map (writable s) (a .terms)) t b → Rereads m a t b
 rereads m s t a b h w = record {
   content = record { answers = w .answers; k = w .power; terms = w .terms ∙ raised-writable s (a .terms) };
   again = w .again ∙ h;

@@ -19,7 +19,8 @@ use Rattle.label.specs.Units.{Name, unit-at}
 use Rattle.label.specs.Symbols.{Symbol, known, unknown, has-name, symbol}
 use Rattle.label.specs.Lexical.{Written, unwritten, whole, fraction, Letters, PrefixName, Quoted, Bracketed}
 use Rattle.label.specs.Limits.{signed, negative, ratio, exponent-of}
-use Rattle.label.specs.Writing.{sign, figures, whole-text, fraction-text, power-text, exponent-text, prefix-letters, same-prefix, same-symbol, reads-as, name-among, name-in, named-text, in-quotes, unknown-text, symbol-text}
+use Rattle.label.specs.Letters.{prefix-letters}
+use Rattle.label.specs.Writing.{sign-text, figures, whole-text, fraction-text, power-text, exponent-text, same-prefix, same-symbol, reads-as, name-among, name-in, named-text, in-quotes, unknown-text, symbol-text}
 use Rattle.label.specs.Rows.{Style}
 use Rattle.label.proofs.Basics.{none-some, false-true, and-left, and-right, same-is}
 use Rattle.label.proofs.General.{SpellingBy, ExponentBy}
@@ -53,7 +54,7 @@ fraction-value : (b : Bool) (e p q : ℕ) (ds es : List ℕ) → Digited p ds �
 unfolding exponent-of ratio
 fraction-value b e p q ds es d f w h = rw (d .value, d .short, f .value, f .short) (ratio-back b e p q w h)
 
-sign-quiet : (b : Bool) → T (all quiet (sign false b))
+sign-quiet : (b : Bool) → T (all quiet (sign-text false b))
 unfolding all quiet admitted
 sign-quiet true = tt
 sign-quiet false = tt
@@ -80,16 +81,16 @@ module _ {y : Style} {r : Rules} (v : Suits y r) (b : Bool) {e p q : ℕ} (w : L
   denominator-of = figures-of q (w .positive) (omega (arith, w .within))
 
   -- a sign and digits
-  numeral-quiet : T (all quiet (sign false b ++ figures p))
-  numeral-quiet = all-append quiet (sign false b) (figures p) (sign-quiet b) (unsigned-quiet (numerator-of .unsigned))
+  numeral-quiet : T (all quiet (sign-text false b ++ figures p))
+  numeral-quiet = all-append quiet (sign-text false b) (figures p) (sign-quiet b) (unsigned-quiet (numerator-of .unsigned))
 
   whole-read : Lowered e p 1 → (x : Bool) → (y .wrapped && b) ≡ x
-      → PowerRead r (record { 0 = signed b e }) (y .raise ++ pick x (open-bracket ∷ (sign false b ++ figures p) ++ close-bracket ∷ []) (sign false b ++ figures p))
+      → PowerRead r (record { 0 = signed b e }) (y .raise ++ pick x (open-bracket ∷ (sign-text false b ++ figures p) ++ close-bracket ∷ []) (sign-text false b ++ figures p))
   whole-read o true h = record {
     power = whole (record { negative = b; digits = figures p });
     derived = v .brackets (wide (y .wrapped) b (y .fractions) h) (Bracketed.an-integer (integer-by b (numerator-of .unsigned)));
     value = whole-value b e p (figures p) numerator-of o high;
-    fine = fine-append (fine-quiet (y .raise) (v .quiet-raise)) (fine-brackets (sign false b ++ figures p) numeral-quiet);
+    fine = fine-append (fine-quiet (y .raise) (v .quiet-raise)) (fine-brackets (sign-text false b ++ figures p) numeral-quiet);
   }
     where
       wide : (x z a : Bool) → (x && z) ≡ true → (x || a) ≡ true
@@ -98,7 +99,7 @@ module _ {y : Style} {r : Rules} (v : Suits y r) (b : Bool) {e p q : ℕ} (w : L
     power = whole (record { negative = b; digits = figures p });
     derived = v .whole (integer-by b (numerator-of .unsigned));
     value = whole-value b e p (figures p) numerator-of o high;
-    fine = fine-append (fine-quiet (y .raise) (v .quiet-raise)) (fine-quiet (sign false b ++ figures p) numeral-quiet);
+    fine = fine-append (fine-quiet (y .raise) (v .quiet-raise)) (fine-quiet (sign-text false b ++ figures p) numeral-quiet);
   }
 
   fraction-read : y .fractions ≡ true → PowerRead r (record { 0 = signed b e }) (fraction-text y b p q)
@@ -113,9 +114,9 @@ module _ {y : Style} {r : Rules} (v : Suits y r) (b : Bool) {e p q : ℕ} (w : L
       wide true = refl
       wide false = h
 
-      brackets : Fine (open-bracket ∷ (sign false b ++ figures p) ++ slash ∷ figures q ++ close-bracket ∷ [])
-      brackets = fine-brackets ((sign false b ++ figures p) ++ slash ∷ figures q)
-          (all-append quiet (sign false b ++ figures p) (slash ∷ figures q) numeral-quiet (slash-quiet (figures q) (unsigned-quiet (denominator-of .unsigned))))
+      brackets : Fine (open-bracket ∷ (sign-text false b ++ figures p) ++ slash ∷ figures q ++ close-bracket ∷ [])
+      brackets = fine-brackets ((sign-text false b ++ figures p) ++ slash ∷ figures q)
+          (all-append quiet (sign-text false b ++ figures p) (slash ∷ figures q) numeral-quiet (slash-quiet (figures q) (unsigned-quiet (denominator-of .unsigned))))
 
   power-read : (t : List ℕ) → power-text y b p q ≡ some t → PowerRead r (record { 0 = signed b e }) t
   unfolding power-text
@@ -136,11 +137,11 @@ module _ {y : Style} {r : Rules} (v : Suits y r) (b : Bool) {e p q : ℕ} (w : L
       go false z false f g k h = absurd (none-some h)
 
 -- an exponent that a label may have
-pub record Within (e : Exponent) : Type 0 where
+pub record WithinBounds (e : Exponent) : Type 0 where
   pub low : 1 ≤ natAbs (e .0)
   pub high : natAbs (e .0) ≤ 5_940
 
-pub exponent-read : {y : Style} {r : Rules} → Suits y r → (e : Exponent) → Within e → (t : List ℕ) → exponent-text y e ≡ some t → PowerRead r e t
+pub exponent-read : {y : Style} {r : Rules} → Suits y r → (e : Exponent) → WithinBounds e → (t : List ℕ) → exponent-text y e ≡ some t → PowerRead r e t
 unfolding exponent-text
 exponent-read v e w t h = rw (signed-size (e .0)) at (power-read v (negative (e .0)) (lowered e) (w .low) (w .high) t h)
 

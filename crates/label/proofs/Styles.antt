@@ -8,7 +8,7 @@ use Rattle.label.specs.declared.Rules.{Rules}
 use Rattle.label.specs.Bytes.{all}
 use Rattle.label.specs.Rows.{Style}
 use Rattle.label.specs.Lexical.{Numeral, Written, whole, ten-to, Unsigned, Signed, Integer, Bracketed}
-use Rattle.label.specs.Writing.{sign}
+use Rattle.label.specs.Writing.{sign-text}
 use Rattle.label.proofs.General.{TimesBy, ExponentBy, FactorBy, GapBy}
 use Rattle.label.proofs.Texts.{quiet}
 
@@ -19,7 +19,7 @@ pub record Suits (y : Style) (r : Rules) : Type 0 where
   pub whole : {s : List ℕ} {n : Numeral} → Integer s n → ExponentBy r (y .raise ++ s) (whole n)
   pub brackets : (y .wrapped || y .fractions) ≡ true → {s : List ℕ} {w : Written} → Bracketed s w → ExponentBy r (y .raise ++ s) w
   pub may-lead : r .factor ≡ true
-  pub factor : (b : Bool) {ds : List ℕ} → Unsigned ds → FactorBy r (y .ten ++ (sign (y .signed) b ++ ds)) (ten-to (record { negative = b; digits = ds }))
+  pub factor : (b : Bool) {ds : List ℕ} → Unsigned ds → FactorBy r (y .ten ++ (sign-text (y .signed) b ++ ds)) (ten-to (record { negative = b; digits = ds }))
   pub gap : GapBy r (y .gap)
   pub quiet-joint : T (all quiet (y .joint))
   pub quiet-raise : T (all quiet (y .raise))
@@ -27,10 +27,10 @@ pub record Suits (y : Style) (r : Rules) : Type 0 where
   pub quiet-gap : T (all quiet (y .gap))
 
 -- an integer without a plus
-pub integer-by : (b : Bool) {ds : List ℕ} → Unsigned ds → Integer (sign false b ++ ds) (record { negative = b; digits = ds })
+pub integer-by : (b : Bool) {ds : List ℕ} → Unsigned ds → Integer (sign-text false b ++ ds) (record { negative = b; digits = ds })
 integer-by true u = Integer.signed (Signed.negative u)
 integer-by false u = Integer.plain u
 
-pub signed-by : (b : Bool) {ds : List ℕ} → Unsigned ds → Signed (sign true b ++ ds) (record { negative = b; digits = ds })
+pub signed-by : (b : Bool) {ds : List ℕ} → Unsigned ds → Signed (sign-text true b ++ ds) (record { negative = b; digits = ds })
 signed-by true u = Signed.negative u
 signed-by false u = Signed.positive u

@@ -12,7 +12,7 @@ use Rattle.label.specs.Lexical.{Letters, Quoted, Unsigned, quoted, prefi
 use Rattle.label.specs.Limits.{deepest-from, deepest}
 use Rattle.label.proofs.Basics.{both, T-and, differs, digit-bounds, nonzero-digit, true→T}
 use Rattle.label.proofs.General.{SpellingBy}
-use Rattle.label.proofs.LexComplete.{prefix-letters}
+use Rattle.label.proofs.LexComplete.{prefix-lettered}
 
 -- BYTES
 
@@ -67,7 +67,7 @@ in-quotes-quiet {l} d = all-append quiet l (quote ∷ []) (letters-quiet d) tt
 
 quoted-quiet : {l : List ℕ} → Quoted l → T (all quiet l)
 quoted-quiet (quoted d) = in-quotes-quiet d
-quoted-quiet (prefixed {p = p} {l = l} n d) = rw (append-assoc p (quote ∷ l) (quote ∷ [])) (all-append quiet p (quote ∷ l ++ quote ∷ []) (letters-quiet (prefix-letters n)) (in-quotes-quiet d))
+quoted-quiet (prefixed {p = p} {l = l} n d) = rw (append-assoc p (quote ∷ l) (quote ∷ [])) (all-append quiet p (quote ∷ l ++ quote ∷ []) (letters-quiet (prefix-lettered n)) (in-quotes-quiet d))
 
 pub spelling-quiet : {r : Rules} {l : List ℕ} → SpellingBy r l → T (all quiet l)
 unfolding all quiet admitted

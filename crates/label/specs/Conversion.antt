@@ -16,13 +16,13 @@ pub record Conversion : Type 0 where
   pub k : Tens
 
 -- "A refused conversion is 0/1, k = 0."
-abbrev pub refuse : ℕ → Conversion
-refuse i = record { number = i; numerator = 0; denominator = 1; k = record { 0 = pos 0 } }
+abbrev pub refuse-conversion : ℕ → Conversion
+refuse-conversion i = record { number = i; numerator = 0; denominator = 1; k = record { 0 = pos 0 } }
 
 -- refusal i unless the test is passed
 unfoldable pub unless : Bool → ℕ → Conversion → Conversion
 unless true i x = x
-unless false i x = refuse i
+unless false i x = refuse-conversion i
 
 -- 8: "an unknown unit in either label"
 abbrev pub both-known : Reading → Reading → Bool
@@ -61,8 +61,8 @@ unfoldable pub all-whole : Scale → Bool
 all-whole c = is-whole (c .of-2) && (is-whole (c .of-3) && (is-whole (c .of-5) && is-whole (c .of-487)))
 
 -- the whole number that an exponent of sixtieths is
-abbrev pub whole : Exponent → ℤ
-whole e = signed (negative (e .0)) (natAbs (e .0) / parts-of-one)
+abbrev pub whole-number : Exponent → ℤ
+whole-number e = signed (negative (e .0)) (natAbs (e .0) / parts-of-one)
 
 -- p to the z, where z is not negative, and where it is
 abbrev pub above : ℕ → ℤ → ℕ
@@ -84,7 +84,7 @@ fraction a b c d = record {
 
 -- the fraction that a scale with whole exponents is
 unfoldable pub fraction-of : Scale → Conversion
-fraction-of c = fraction (whole (c .of-2)) (whole (c .of-3)) (whole (c .of-5)) (whole (c .of-487))
+fraction-of c = fraction (whole-number (c .of-2)) (whole-number (c .of-3)) (whole-number (c .of-5)) (whole-number (c .of-487))
 
 -- 11: "numerator or denominator above 2 to the 53, or k outside -9,999 to 9,999"
 abbrev pub small : Conversion → Bool

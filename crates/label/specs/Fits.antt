@@ -5,10 +5,10 @@ use Rattle.label.specs.Bytes.{space as space-byte, open-bracket, close-b
 use Rattle.label.specs.Lexical.{Numeral, Written, unwritten, whole, Factor, no-factor, ten-to, Part, part, turned-all, Kind, item, more, product, quotient, Letters, Integer, Signed, Bracketed, Power, Wrapped}
 
 -- "joined by one space, a star or a point"
-pub data Joint : ℕ → Type 0 where
-  space : Joint space-byte
-  star : Joint star-byte
-  point : Joint point-byte
+pub data Joiner : ℕ → Type 0 where
+  space : Joiner space-byte
+  star : Joiner star-byte
+  point : Joiner point-byte
 
 -- "Exponent: an integer directly after the spelling, or a bracketed power directly, or ** or ^ and a power."
 pub data Exponent : List ℕ → Written → Type 0 where
@@ -24,7 +24,7 @@ pub data Fits : Kind → List ℕ → List ℕ → List Part → Type 0 where
   unit : {l e t : List ℕ} {w : Written} → Letters l → Exponent e w → Fits item (l ++ (e ++ t)) t (part l w (e ++ t) ∷ [])
   first : {s t u : List ℕ} {ps qs : List Part} → Fits item s t ps → Fits more t u qs → Fits product s u (ps ++ qs)
   done : {s : List ℕ} → Fits more s s []
-  times : {c : ℕ} {s t u : List ℕ} {ps qs : List Part} → Joint c → Fits item s t ps → Fits more t u qs → Fits more (c ∷ s) u (ps ++ qs)
+  times : {c : ℕ} {s t u : List ℕ} {ps qs : List Part} → Joiner c → Fits item s t ps → Fits more t u qs → Fits more (c ∷ s) u (ps ++ qs)
   -- "The whole: a product; or a product, a slash and one unit or group"
   plain : {s t : List ℕ} {ps : List Part} → Fits product s t ps → Fits quotient s t ps
   over : {s t u : List ℕ} {ps qs : List Part} → Fits product s (slash ∷ t) ps → Fits item t u qs → Fits quotient s u (ps ++ turned-all qs)

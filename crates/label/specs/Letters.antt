@@ -11,14 +11,14 @@ use Rattle.label.specs.Symbols.{Symbol, known, unknown}
 use Rattle.label.specs.Reading.{Term}
 
 -- the name of a prefix, by its place in the table; no bytes without a prefix
-abbrev pub name-of : Option ℕ → List ℕ
-name-of none = []
-name-of (some i) = getD prefixes i (prefix "" (pos 0)) .name
+abbrev pub prefix-letters : Option ℕ → List ℕ
+prefix-letters none = []
+prefix-letters (some i) = getD prefixes i (prefix "" (pos 0)) .name
 
 -- A spelling is a prefix name or nothing, perhaps a quote, the letters, and a quote if there was one. So it has quotes exactly if it has
 -- more bytes than the name and the letters. How many bytes come before the letters l, in a spelling of so many bytes with prefix p:
 unfoldable pub before-letters : Option ℕ → List ℕ → ℕ → ℕ
-before-letters p l size = length (name-of p) + pick (ltb (length (name-of p) + length l) size) 1 0
+before-letters p l size = length (prefix-letters p) + pick (ltb (length (prefix-letters p) + length l) size) 1 0
 
 unfoldable pub letters-from : Symbol → ℕ → ℕ → ℕ
 letters-from (known p u) start size = 0

@@ -2,7 +2,7 @@
 use Prim.Native.Nat.{ℕ, _-_, _≤_}
 use mathlib.Core.List.{List}
 use lib.ListN.{length, take, drop}
-use Rattle.label.specs.declared.Digits.{Digits}
+use Rattle.label.specs.declared.DigitRange.{DigitRange}
 use Rattle.label.specs.declared.SignedDigits.{SignedDigits}
 use Rattle.label.specs.declared.WrittenPower.{WrittenPower}
 use Rattle.label.specs.declared.WrittenPower.the-variants.{Unwritten, Whole, Decimal, Fraction}
@@ -14,7 +14,7 @@ use Rattle.label.specs.Lexical.{Numeral, Written, unwritten, whole, deci
 abbrev pub between : List ℕ → ℕ → ℕ → List ℕ
 between s a e = take (e - a) (drop a s)
 
-abbrev pub digits-in : List ℕ → Digits → List ℕ
+abbrev pub digits-in : List ℕ → DigitRange → List ℕ
 digits-in s d = between s (d .start) (d .end)
 
 abbrev pub numeral-in : List ℕ → SignedDigits → Numeral
@@ -32,7 +32,7 @@ factor-in s (TenTo n) = ten-to (numeral-in s n)
 factor-in s (Zeros k) = zeros k
 
 -- the digits lie in s
-pub record Inside (s : List ℕ) (d : Digits) : Type 0 where
+pub record Inside (s : List ℕ) (d : DigitRange) : Type 0 where
   pub forward : d .start ≤ d .end
   pub within : d .end ≤ length s
 

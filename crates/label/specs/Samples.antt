@@ -20,25 +20,25 @@ pub record Shown : Type 0 where
   pub exponent : Fraction
 
 -- what a sample shows of an answer: a reading's number, k, terms and whether it is lawful; or a conversion's number, n, d and k
-pub data Outcome : Type 0 where
-  read : ℕ → ℤ → List Shown → Bool → Outcome
-  converted : ℕ → ℕ → ℕ → ℤ → Outcome
+pub data Expected : Type 0 where
+  read : ℕ → ℤ → List Shown → Bool → Expected
+  converted : ℕ → ℕ → ℕ → ℤ → Expected
 
 -- a label, or two, and what is expected
 pub record Sample : Type 0 where
-  pub actual : Outcome
-  pub expected : Outcome
+  pub actual : Expected
+  pub expected : Expected
 
 abbrev pub shown : Term → Shown
 shown t = record { symbol = t .symbol; exponent = lowest-terms (t .exponent) }
 
-abbrev pub reads : ℕ → String → Outcome → Sample
+abbrev pub reads : ℕ → String → Expected → Sample
 reads n s x = record {
   actual = read (reading n (bytes s) .number) (reading n (bytes s) .k .0) (map shown (reading n (bytes s) .terms)) (reading n (bytes s) .lawful);
   expected = x;
 }
 
-abbrev pub converts : ℕ → String → ℕ → String → Outcome → Sample
+abbrev pub converts : ℕ → String → ℕ → String → Expected → Sample
 converts n s m t x = record {
   actual = converted (conversion n (bytes s) m (bytes t) .number) (conversion n (bytes s) m (bytes t) .numerator)
       (conversion n (bytes s) m (bytes t) .denominator) (conversion n (bytes s) m (bytes t) .k .0);
@@ -54,13 +54,13 @@ unit p u e = record { symbol = named (unit-named vounits (bytes u)); exponent = 
     named none = unknown none []
 
 -- unknown letters, with a prefix by its name
-abbrev pub letters : String → String → Shown
-letters p l = record { symbol = unknown (prefix-named (bytes p)) (bytes l); exponent = record { numerator = pos 1; denominator = 1 } }
+abbrev pub unknown-letters : String → String → Shown
+unknown-letters p l = record { symbol = unknown (prefix-named (bytes p)) (bytes l); exponent = record { numerator = pos 1; denominator = 1 } }
 
-abbrev pub accepted : List Shown → Outcome
+abbrev pub accepted : List Shown → Expected
 accepted ts = read 0 (pos 0) ts true
 
-abbrev pub refused : ℕ → Outcome
+abbrev pub refused : ℕ → Expected
 refused i = read i (pos 0) [] false
 
 unfoldable pub samples : List Sample
@@ -79,15 +79,15 @@ samples =
     -- P5: FITS Pa is pascal
     ∷ reads fits "Pa" (accepted (unit "" "Pa" (pos 1) ∷ []))
     -- P6: VOUnits furlong is femto, urlong
-    ∷ reads vounits "furlong" (accepted (letters "f" "urlong" ∷ []))
+    ∷ reads vounits "furlong" (accepted (unknown-letters "f" "urlong" ∷ []))
     -- P7: CDS pixel is pico, ixel
-    ∷ reads cds "pixel" (accepted (letters "p" "ixel" ∷ []))
+    ∷ reads cds "pixel" (accepted (unknown-letters "p" "ixel" ∷ []))
     -- P8: OGIP ph is pico, hour, unlawful
     ∷ reads ogip "ph" (read 0 (pos 0) (unit "p" "h" (pos 1) ∷ []) false)
     -- P9: CDS da is deci, year
     ∷ reads cds "da" (accepted (unit "d" "yr" (pos 1) ∷ []))
     -- P10: VOUnits 'm' is unknown m
-    ∷ reads vounits "'m'" (accepted (letters "" "m" ∷ []))
+    ∷ reads vounits "'m'" (accepted (unknown-letters "" "m" ∷ []))
     -- P11: FITS m(1/7) is 5
     ∷ reads fits "m(1/7)" (refused 5)
     -- P12: CDS km/h to CDS m/s is 1/36, k 1

@@ -5,15 +5,15 @@ use mathlib.Core.Bool.{Bool, true, false, _&&_}
 use mathlib.Core.List.{List, [], _∷_, _++_, map}
 use mathlib.Core.Option.{Option, none, some}
 use lib.Dec.{leb, eqb}
-use lib.IntN.{pos, natAbs}
-use lib.ListN.{length, drop, getD}
+use lib.IntN.{natAbs}
+use lib.ListN.{length, drop}
 use Rattle.label.specs.declared.Exponent.{Exponent}
 use Rattle.label.specs.declared.Tens.{Tens}
 use Rattle.label.specs.Bytes.{bytes, quote, open-bracket, close-bracket, plus, minus, slash, digit-zero, same}
 use Rattle.label.specs.Choice.{pick}
 use Rattle.label.specs.Notations.{member, fractionless, notation}
 use Rattle.label.specs.Rows.{Style, style-of}
-use Rattle.label.specs.Prefixes.{prefix, prefixes}
+use Rattle.label.specs.Letters.{prefix-letters}
 use Rattle.label.specs.Units.{Name, unit-at}
 use Rattle.label.specs.Symbols.{Symbol, known, unknown, has-name, symbol}
 use Rattle.label.specs.Grammar.{Spelling}
@@ -34,29 +34,29 @@ unfoldable pub figures : ℕ → List ℕ
 figures n = figures-before most-digits n []
 
 -- "No plus but in the CDS factor."
-abbrev pub sign : Bool → Bool → List ℕ
-sign plussed true = minus ∷ []
-sign true false = plus ∷ []
-sign false false = []
+abbrev pub sign-text : Bool → Bool → List ℕ
+sign-text plussed true = minus ∷ []
+sign-text true false = plus ∷ []
+sign-text false false = []
 
-abbrev pub bracketed : List ℕ → List ℕ
-bracketed s = open-bracket ∷ s ++ close-bracket ∷ []
+abbrev pub in-brackets : List ℕ → List ℕ
+in-brackets s = open-bracket ∷ s ++ close-bracket ∷ []
 
 -- THE FACTOR
 
 -- "k not 0: `10**k` and a space (FITS, OGIP), `10**k` (VOUnits), `10+3` or `10-3` style (CDS)."
 unfoldable pub factor-text : Style → Tens → List ℕ
-factor-text y k = pick (eqb (natAbs (k .0)) 0) [] ((y .ten ++ (sign (y .signed) (negative (k .0)) ++ figures (natAbs (k .0)))) ++ y .gap)
+factor-text y k = pick (eqb (natAbs (k .0)) 0) [] ((y .ten ++ (sign-text (y .signed) (negative (k .0)) ++ figures (natAbs (k .0)))) ++ y .gap)
 
 -- EXPONENTS
 
 -- "Whole: m-2 (FITS, CDS), `m**-2` (VOUnits), `m**2` and `m**(-2)` (OGIP)."
 abbrev pub whole-text : Style → Bool → ℕ → List ℕ
-whole-text y minused p = y .raise ++ pick (y .wrapped && minused) (bracketed (sign false minused ++ figures p)) (sign false minused ++ figures p)
+whole-text y minused p = y .raise ++ pick (y .wrapped && minused) (in-brackets (sign-text false minused ++ figures p)) (sign-text false minused ++ figures p)
 
 -- "Fraction p/q: m(p/q) (FITS), `m**(p/q)` (OGIP, VOUnits)"
 abbrev pub fraction-text : Style → Bool → ℕ → ℕ → List ℕ
-fraction-text y minused p q = y .raise ++ (open-bracket ∷ (sign false minused ++ figures p) ++ slash ∷ figures q ++ close-bracket ∷ [])
+fraction-text y minused p q = y .raise ++ (open-bracket ∷ (sign-text false minused ++ figures p) ++ slash ∷ figures q ++ close-bracket ∷ [])
 
 -- "Exponent 1 is omitted."; "none in CDS"
 unfoldable pub power-text : Style → Bool → ℕ → ℕ → Option (List ℕ)
@@ -69,10 +69,6 @@ unfoldable pub exponent-text : Style → Exponent → Option (List ℕ)
 exponent-text y e = power-text y (negative (e .0)) (natAbs (lowest-terms e .numerator)) (lowest-terms e .denominator)
 
 -- UNITS
-
-abbrev pub prefix-letters : Option ℕ → List ℕ
-prefix-letters none = []
-prefix-letters (some i) = getD prefixes i (prefix "" (pos 0)) .name
 
 abbrev pub same-prefix : Option ℕ → Option ℕ → Bool
 same-prefix none none = true
@@ -168,8 +164,8 @@ pub record ReadsAs (m : ℕ) (l : List ℕ) (x : Symbol) : Type 0 where
   pub is : symbol m l ≡ x
 
 -- notation m knows the unit of row u by the name l
-pub data Named (m u : ℕ) : List ℕ → Type 0 where
-  named : {l : List ℕ} → has-name m l (unit-at u .names) ≡ true → Named m u l
+pub data NameIn (m u : ℕ) : List ℕ → Type 0 where
+  named : {l : List ℕ} → has-name m l (unit-at u .names) ≡ true → NameIn m u l
 
 -- l is the first of these names that notation m knows
 pub data FirstName (m : ℕ) : List Name → List ℕ → Type 0 where
@@ -178,8 +174,8 @@ pub data FirstName (m : ℕ) : List Name → List ℕ → Type 0 where
 
 -- "A known unit keeps its spelling if the target knows it, else takes its other name there." No unit has two other names in a notation.
 pub data TakesName (m u : ℕ) (own : List ℕ) : List ℕ → Type 0 where
-  keeps : Named m u own → TakesName m u own own
-  takes : {l : List ℕ} → (Named m u own → ⊥) → FirstName m (unit-at u .names) l → TakesName m u own l
+  keeps : NameIn m u own → TakesName m u own own
+  takes : {l : List ℕ} → (NameIn m u own → ⊥) → FirstName m (unit-at u .names) l → TakesName m u own l
 
 -- Form m own x l: in notation m the unit x, whose name in the source has the letters own, has the spelling l.
 pub data Form (m : ℕ) (own : List ℕ) : Symbol → List ℕ → Type 0 where
@@ -213,17 +209,17 @@ pub record Rewriting : Type 0 where
   pub text : List ℕ
 
 -- "A refused rewrite has length 0"
-abbrev pub refuse : ℕ → Rewriting
-refuse i = record { number = i; text = [] }
+abbrev pub refuse-rewriting : ℕ → Rewriting
+refuse-rewriting i = record { number = i; text = [] }
 
 -- refusal i unless the test is passed
 unfoldable pub unless : Bool → ℕ → Rewriting → Rewriting
 unless true i x = x
-unless false i x = refuse i
+unless false i x = refuse-rewriting i
 
 -- 12 and 13
 unfoldable pub sized : Option (List ℕ) → Rewriting
-sized none = refuse 12
+sized none = refuse-rewriting 12
 sized (some t) = unless (leb (length t) most-bytes) 13 (record { number = 0; text = t })
 
 -- the text that notation m writes for the reading a of the label s

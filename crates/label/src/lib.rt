@@ -37,7 +37,7 @@ pub struct Rules {
 }
 
 // Digits of a label: the bytes from `start` up to `end`.
-pub struct Digits {
+pub struct DigitRange {
     pub start: usize,
     pub end: usize,
 }
@@ -45,15 +45,15 @@ pub struct Digits {
 // An integer of a label: its sign and its digits.
 pub struct SignedDigits {
     pub negative: bool,
-    pub digits: Digits,
+    pub digits: DigitRange,
 }
 
 // A power as written in a label.
 pub enum WrittenPower {
     Unwritten,
     Whole(SignedDigits),
-    Decimal(SignedDigits, Digits),
-    Fraction(SignedDigits, Digits),
+    Decimal(SignedDigits, DigitRange),
+    Fraction(SignedDigits, DigitRange),
 }
 
 // A factor as written in a label: none, ten to an integer, or 1 and a number of zeros.

@@ -5,13 +5,13 @@ ghost use mathlib.Core.Path.{_≡_};
 ghost use lib.ListN.{length};
 
 // After a chunk: how many bytes of an unfinished line are kept, and whether the answers could be written.
-struct Passed {
+struct ChunkPassed {
     kept: usize,
     going: bool,
 }
 
 // Uses a chunk to its end. The answers are written as often as the buffer for them is full, and after the chunk.
-fn pass(chunk: &[u8], line: &mut [u8; 513], kept: usize, out: &mut [u8]) -> Passed
+fn pass(chunk: &[u8], line: &mut [u8; 513], kept: usize, out: &mut [u8]) -> ChunkPassed
     requires { ⌜ length (now out) ≡ 65536 ⌝ }
 {
     let mut used = 0;
@@ -23,7 +23,7 @@ fn pass(chunk: &[u8], line: &mut [u8; 513], kept: usize, out: &mut [u8]) -> Pass
         let r = feed(&chunk[used..], line, held, out);
         let written = r.written;
         if !io::write_all(1, &out[0..written]) {
-            return Passed {
+            return ChunkPassed {
                 kept: 0,
                 going: false,
             };
@@ -31,7 +31,7 @@ fn pass(chunk: &[u8], line: &mut [u8; 513], kept: usize, out: &mut [u8]) -> Pass
         used += r.used;
         held = r.kept;
     }
-    Passed {
+    ChunkPassed {
         kept: held,
         going: true,
     }

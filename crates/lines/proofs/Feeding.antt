@@ -12,7 +12,7 @@ use Rattle.label.specs.Bytes.{newline}
 use Rattle.label.specs.Lines.{answers, output-after}
 use Rattle.lines.specs.declared.input.Fed.{Fed}
 use Rattle.lines.specs.Writing.{Puts, most-answer}
-use Rattle.lines.specs.Feeding.{most-kept, Keeps, Due, Steps, Finishes}
+use Rattle.lines.specs.Feeding.{most-kept, Keeps, OutputDue, Steps, Finishes}
 use Rattle.lines.proofs.Lines.{rest-of}
 use Rattle.lines.proofs.Outputs.{line-goes-on, line-ends, last-output, no-output}
 
@@ -68,11 +68,11 @@ module _ (s line line′ : List ℕ) (kept end size : ℕ) (is : end ≡ 0 + ind
 
 -- STEPS ONE AFTER THE OTHER
 
-pub due₀ : (s line : List ℕ) (kept : ℕ) (out : List ℕ) → Due s line kept line out (record { used = 0; kept = kept; written = 0 })
+pub due₀ : (s line : List ℕ) (kept : ℕ) (out : List ℕ) → OutputDue s line kept line out (record { used = 0; kept = kept; written = 0 })
 due₀ s line kept out = record { used-within = omega arith; written-within = omega arith; output-is = λ rest. refl }
 
-module _ {s line line₁ out : List ℕ} {kept : ℕ} (r r′ : Fed) (line₂ p : List ℕ) (d : Due s line kept line₁ out r)
-    (d′ : Due (take (length s - r .used) (drop (r .used) s)) line₁ (r .kept) line₂ p r′) (same : length p ≡ length (midOf (r .written) (length out - r .written) out)) where
+module _ {s line line₁ out : List ℕ} {kept : ℕ} (r r′ : Fed) (line₂ p : List ℕ) (d : OutputDue s line kept line₁ out r)
+    (d′ : OutputDue (take (length s - r .used) (drop (r .used) s)) line₁ (r .kept) line₂ p r′) (same : length p ≡ length (midOf (r .written) (length out - r .written) out)) where
   abbrev out′ : List ℕ
   out′ = putMid (r .written) (length out - r .written) out p
 
@@ -93,7 +93,7 @@ module _ {s line line₁ out : List ℕ} {kept : ℕ} (r r′ : Fed) (line₂ p 
       ∙ ap (λ (n : ℕ). take (n + r′ .written) (take (r .written) out ++ p)) (sym front)
       ∙ take-append-add (take (r .written) out) p (r′ .written)
 
-  pub due-more : Due s line kept line₂ out′ (record { used = r .used + r′ .used; kept = r′ .kept; written = r .written + r′ .written })
+  pub due-more : OutputDue s line kept line₂ out′ (record { used = r .used + r′ .used; kept = r′ .kept; written = r .written + r′ .written })
   due-more = record {
     used-within = omega (arith, d .used-within, d′ .used-within, ap length chunk-rest, length-drop (r .used) s);
     written-within = omega (arith, d′ .written-within, ap length joined, length-append (take (r .written) out) p, front);

@@ -9,7 +9,7 @@ use borrow.Rule.Slice.PartMut.{midOf, putMid}
 use borrow.Author.Tests.{le-ltb}
 use Rattle.label.specs.Bytes.{newline}
 use Rattle.label.specs.Lines.{answer, answers}
-use Rattle.lines.specs.Writing.{Puts, most-answer, Answers}
+use Rattle.lines.specs.Writing.{Puts, most-answer, AnswersLine}
 use Rattle.lines.specs.Feeding.{most-kept, Keeps}
 use Rattle.lines.proofs.Putting.{over, over-append, tail-put}
 
@@ -83,7 +83,7 @@ answers-one : (s : List ℕ) → answers (s ∷ []) ≡ answer s ++ newline ∷ 
 unfolding answers
 answers-one s = refl
 
-pub line-put : (s b c : List ℕ) (size : ℕ) → most-answer < length b → Answers s b c size → Puts (answers (s ∷ [])) b (set c size newline) (size + 1)
+pub line-put : (s b c : List ℕ) (size : ℕ) → most-answer < length b → AnswersLine s b c size → Puts (answers (s ∷ [])) b (set c size newline) (size + 1)
 line-put s b c size h a = go (rw (le-ltb (length b) most-answer (omega arith)) at (a .puts))
   where
     go : Puts (answer s) b c size → Puts (answers (s ∷ [])) b (set c size newline) (size + 1)

@@ -14,7 +14,7 @@ use Rattle.label.specs.Ranges.{between}
 use Rattle.label.specs.Writing.{rewriting}
 use Rattle.label.specs.Lines.{most-line, parts, last-field, fields, notation-named, answer-with, malformed, well-formed, answer-fields, answer, answers}
 use Rattle.lines.specs.Fields.{FieldEnd}
-use Rattle.lines.specs.Writing.{Puts, number-text, most-answer, Answers}
+use Rattle.lines.specs.Writing.{Puts, number-text, most-answer, AnswersLine}
 use Rattle.lines.proofs.Putting.{malformed-is, number-size}
 use Rattle.lines.proofs.Parts.{parts-found, parts-missing}
 
@@ -104,11 +104,11 @@ module _ (s : List ℕ) where
 
 -- A LINE'S ANSWER IN A BUFFER
 
-pub answer-nothing : (s b : List ℕ) → length b < most-answer → Answers s b b 0
+pub answer-nothing : (s b : List ℕ) → length b < most-answer → AnswersLine s b b 0
 answer-nothing s b h = record { puts = rw (lt-ltb (length b) most-answer h) (record { size-is = refl; bytes-are = refl }); short = omega arith }
 
-pub answer-given : (s b : List ℕ) {c t : List ℕ} {size : ℕ} → most-answer ≤ length b → answer s ≡ t → Puts t b c size → size ≤ most-answer → Answers s b c size
+pub answer-given : (s b : List ℕ) {c t : List ℕ} {size : ℕ} → most-answer ≤ length b → answer s ≡ t → Puts t b c size → size ≤ most-answer → AnswersLine s b c size
 answer-given s b h e p l = record { puts = rw (le-ltb (length b) most-answer h, e) p; short = l }
 
-pub answer-refused : (s b : List ℕ) {c : List ℕ} {size : ℕ} → most-answer ≤ length b → answer s ≡ malformed → Puts (number-text 15) b c size → Answers s b c size
+pub answer-refused : (s b : List ℕ) {c : List ℕ} {size : ℕ} → most-answer ≤ length b → answer s ≡ malformed → Puts (number-text 15) b c size → AnswersLine s b c size
 answer-refused s b h e p = answer-given s b h (e ∙ malformed-is) p (omega (arith, p .size-is, number-size 15))

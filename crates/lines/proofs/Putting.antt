@@ -14,7 +14,7 @@ use Rattle.label.specs.Bytes.{tab, digit-zero}
 use Rattle.label.specs.Choice.{pick}
 use Rattle.label.specs.Lines.{decimal, malformed, answer-with}
 use Rattle.label.specs.Writing.{Rewriting}
-use Rattle.label.proofs.Bounded.{Bounded}
+use Rattle.label.proofs.Bounded.{BoundedRewriting}
 use Rattle.lines.specs.Writing.{Puts, number-text, most-answer}
 
 abbrev pub over : List ℕ → List ℕ → List ℕ
@@ -122,7 +122,7 @@ module _ (id num text b b₁ b₂ b₃ : List ℕ) (copied : b₁ ≡ over id b)
 
 -- THE ANSWER
 
-module _ (id b b₁ p₂ p₃ : List ℕ) (r : Rewriting) (bounded : Bounded r) (copied : b₁ ≡ take (length id) id ++ drop (length id) b) (room : length id + 3 ≤ length b₁) where
+module _ (id b b₁ p₂ p₃ : List ℕ) (r : Rewriting) (bounded : BoundedRewriting r) (copied : b₁ ≡ take (length id) id ++ drop (length id) b) (room : length id + 3 ≤ length b₁) where
   abbrev b₂ : List ℕ
   b₂ = putMid (length id + 3) (length b₁ - (length id + 3)) b₁ p₂
 
@@ -160,7 +160,7 @@ module _ (id b b₁ p₂ p₃ : List ℕ) (r : Rewriting) (bounded : Bounded r) 
         bytes-are = rw e (bytes-put size result-size (rw e at result) (rw e at number));
       })
 
-pub answer-size : (r : Rewriting) → Bounded r → (at size result-size : ℕ) → at ≤ 509 → size ≡ length (number-text (r .number)) → result-size ≡ length (r .text)
+pub answer-size : (r : Rewriting) → BoundedRewriting r → (at size result-size : ℕ) → at ≤ 509 → size ≡ length (number-text (r .number)) → result-size ≡ length (r .text)
     → at + size + result-size ≤ most-answer
 answer-size r bounded at size result-size h p q = go (decLt (r .number) 10)
   where

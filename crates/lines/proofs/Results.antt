@@ -10,7 +10,7 @@ use Rattle.label.specs.Writing.{rewriting}
 use Rattle.label.proofs.Bounded.{rewriting-bounded}
 use Rattle.rewriting.specs.declared.rewrite.Rewritten.{Rewritten}
 use Rattle.label.specs.Writing.{fitted, rewriting-into, buffer-with}
-use Rattle.rewriting.specs.Buffers.{Answers}
+use Rattle.rewriting.specs.Buffers.{AnswerIs}
 use Rattle.lines.specs.Writing.{Puts}
 
 module _ (n : ℕ) (s : List ℕ) (m : ℕ) (b c : List ℕ) (r : Rewritten) (room : 255 ≤ length b) where
@@ -18,7 +18,7 @@ module _ (n : ℕ) (s : List ℕ) (m : ℕ) (b c : List ℕ) (r : Rewritten) (ro
   unfolding rewriting-into fitted unless
   all-fits = rw (le-leb (length (rewriting n s m .text)) (length b) (omega (arith, rewriting-bounded n s m .short)))
 
-  pub result-put : Answers (rewriting-into (length b) n s m) r → c ≡ buffer-with (rewriting-into (length b) n s m) b
+  pub result-put : AnswerIs (rewriting-into (length b) n s m) r → c ≡ buffer-with (rewriting-into (length b) n s m) b
       → (r .number ≡ rewriting n s m .number) × Puts (rewriting n s m .text) b c (r .length)
   unfolding buffer-with
   result-put a e = (rw all-fits at (a .number), record { size-is = rw all-fits at (a .length-is); bytes-are = rw all-fits at e })

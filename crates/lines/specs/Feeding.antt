@@ -20,7 +20,7 @@ pub record Keeps (u line : List ℕ) (kept : ℕ) (line′ : List ℕ) (size : �
   pub bytes-are : take size line′ ≡ take most-kept (take kept line ++ u)
 
 -- What is written and the output that is still due are the output that was due, whatever comes after the chunk.
-pub record Due (chunk line : List ℕ) (kept : ℕ) (line′ out : List ℕ) (r : Fed) : Type 0 where
+pub record OutputDue (chunk line : List ℕ) (kept : ℕ) (line′ out : List ℕ) (r : Fed) : Type 0 where
   pub used-within : r .used ≤ length chunk
   pub written-within : r .written ≤ length out
   pub output-is : (rest : List ℕ)
@@ -28,17 +28,17 @@ pub record Due (chunk line : List ℕ) (kept : ℕ) (line′ out : List ℕ) (r 
 
 -- a step uses at least a byte, if there is one
 pub record Steps (chunk line : List ℕ) (kept : ℕ) (out line′ out′ : List ℕ) (r : Fed) : Type 0 where
-  pub due : Due chunk line kept line′ out′ r
+  pub due : OutputDue chunk line kept line′ out′ r
   pub some-used : 0 < length chunk → 0 < r .used
 
 -- the chunk is used, or there is no room for an answer and its newline
-pub data Ended (chunk out : List ℕ) (r : Fed) : Type 0 where
-  chunk-used : r .used ≡ length chunk → Ended chunk out r
-  buffer-full : length out < r .written + most-answer + 1 → Ended chunk out r
+pub data FeedingEnds (chunk out : List ℕ) (r : Fed) : Type 0 where
+  chunk-used : r .used ≡ length chunk → FeedingEnds chunk out r
+  buffer-full : length out < r .written + most-answer + 1 → FeedingEnds chunk out r
 
 pub record Feeds (chunk line : List ℕ) (kept : ℕ) (out line′ out′ : List ℕ) (r : Fed) : Type 0 where
-  pub due : Due chunk line kept line′ out′ r
-  pub ended : Ended chunk out r
+  pub due : OutputDue chunk line kept line′ out′ r
+  pub ended : FeedingEnds chunk out r
   -- with room for a line's answer at least a byte is used, if there is one
   pub some-used : most-answer < length out → 0 < length chunk → 0 < r .used
 
@@ -47,8 +47,8 @@ pub record Finishes (line : List ℕ) (kept : ℕ) (out out′ : List ℕ) (size
   pub puts : Puts (pick (ltb (length out) (most-answer + 1)) [] (output-after (take kept line) [])) out out′ size
 
 -- A program that feeds its input in chunks, cut anywhere, writes after each what was put into its buffer, and finishes, wrote these bytes.
-pub data Writes : List ℕ → ℕ → List ℕ → List ℕ → Type 0 where
+pub data ProgramWrites : List ℕ → ℕ → List ℕ → List ℕ → Type 0 where
   fed : {line s all : List ℕ} {kept : ℕ} (chunk rest out line′ out′ written : List ℕ) (r : Fed) → s ≡ chunk ++ rest → Feeds chunk line kept out line′ out′ r
-      → Writes line′ (r .kept) (drop (r .used) chunk ++ rest) written → all ≡ take (r .written) out′ ++ written → Writes line kept s all
+      → ProgramWrites line′ (r .kept) (drop (r .used) chunk ++ rest) written → all ≡ take (r .written) out′ ++ written → ProgramWrites line kept s all
   finished : {line s all : List ℕ} {kept : ℕ} (out out′ : List ℕ) (size : ℕ) → s ≡ [] → most-answer < length out → Finishes line kept out out′ size → all ≡ take size out′
-      → Writes line kept s all
+      → ProgramWrites line kept s all

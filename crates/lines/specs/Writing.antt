@@ -22,6 +22,6 @@ abbrev pub most-answer : ℕ
 most-answer = 767
 
 -- the answer to a line, or nothing where the buffer is too short for some answer
-pub record Answers (s b c : List ℕ) (size : ℕ) : Type 0 where
+pub record AnswersLine (s b c : List ℕ) (size : ℕ) : Type 0 where
   pub puts : Puts (pick (ltb (length b) most-answer) [] (answer s)) b c size
   pub short : size ≤ most-answer

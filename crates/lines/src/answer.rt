@@ -9,7 +9,7 @@ ghost use lib.ListN.{length};
 ghost use Rattle.label.specs.Writing.{rewriting};
 ghost use Rattle.label.specs.Lines as spec;
 ghost use Rattle.lines.specs.Fields.{FieldEnd};
-ghost use Rattle.lines.specs.Writing.{Puts, Answers};
+ghost use Rattle.lines.specs.Writing.{Puts, AnswersLine};
 
 // Where the field that begins at `from` ends: at the next tab or at the line's end.
 fn field_end(line: &[u8], from: usize) -> usize
@@ -47,7 +47,7 @@ fn put_answer(id: &[u8], source: &[u8], text: &[u8], target: &[u8], out: &mut [u
 // Puts the answer to a line over the start of `out`, and answers how many bytes it has. An answer has at most 767 bytes: 509 of an id, two tabs,
 // a 0 and 255 of a result. Where `out` has fewer, nothing is put and 0 is answered.
 pub fn answer_line(line: &[u8], out: &mut [u8]) -> usize
-    ensures { λ r. ⌜ Answers (now (line .entry)) (now (out .entry)) (now (out .exit)) r ⌝ }
+    ensures { λ r. ⌜ AnswersLine (now (line .entry)) (now (out .entry)) (now (out .exit)) r ⌝ }
 {
     if out.len() < 767 {
         return 0;

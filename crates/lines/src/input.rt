@@ -16,7 +16,7 @@ pub struct Fed {
 }
 
 // Appends bytes to the unfinished line, of which 513 bytes are kept: a line with so many is malformed.
-fn keep(bytes: &[u8], line: &mut [u8], kept: usize) -> usize
+fn keep_bytes(bytes: &[u8], line: &mut [u8], kept: usize) -> usize
     requires { ⌜ length (now line) ≡ 513 ⌝ }
     ensures { λ r. ⌜ Keeps (now (bytes .entry)) (now (line .entry)) kept (now (line .exit)) r ⌝ }
 {
@@ -48,7 +48,7 @@ fn step(chunk: &[u8], line: &mut [u8], kept: usize, out: &mut [u8]) -> Fed
     ensures { λ r. ⌜ Steps (now (chunk .entry)) (now (line .entry)) kept (now (out .entry)) (now (line .exit)) (now (out .exit)) r ⌝ }
 {
     let end = bytes::scan::find(chunk, 0, chunk.len(), b'\n');
-    let size = keep(&chunk[0..end], line, kept);
+    let size = keep_bytes(&chunk[0..end], line, kept);
     if chunk.len() <= end {
         return Fed {
             used: end,

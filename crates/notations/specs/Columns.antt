@@ -22,8 +22,8 @@ pub record JointOf (n b : ℕ) : Type 0 where
   pub is : (y : Style) → style-of n ≡ some y → y .joint ≡ b ∷ []
 
 -- the names: how many letters they have, and their keys
-unfoldable pub name-sizes : List ℕ
-name-sizes = map (λ (x : Row (List ℕ)). length (x .value)) named
+unfoldable pub notation-sizes : List ℕ
+notation-sizes = map (λ (x : Row (List ℕ)). length (x .value)) named
 
-unfoldable pub name-keys : List ℕ
-name-keys = map (λ (x : Row (List ℕ)). key-of (x .value)) named
+unfoldable pub notation-keys : List ℕ
+notation-keys = map (λ (x : Row (List ℕ)). key-of (x .value)) named

@@ -9,7 +9,7 @@ ghost use mathlib.Core.Option.{some};
 ghost use Rattle.label.specs.Lines.{notation-named};
 ghost use Rattle.label.specs.Notations.{notation};
 ghost use Rattle.label.specs.Rows.{fits-rules, ogip-rules, cds-rules, vounits-rules, rules-of};
-ghost use Rattle.notations.specs.Columns.{InSet, joints, JointOf, name-sizes, name-keys};
+ghost use Rattle.notations.specs.Columns.{InSet, joints, JointOf, notation-sizes, notation-keys};
 ghost use Rattle.notations.specs.Styles.{StyleOf};
 
 // How many notations there are: their numbers are 1 to this one.
@@ -213,14 +213,14 @@ pub fn style_of(n: u8) -> Style
     }
 }
 
-fn name_sizes() -> [usize; 4]
-    ensures { λ r. ⌜ r ≡ name-sizes ⌝ }
+fn notation_sizes() -> [usize; 4]
+    ensures { λ r. ⌜ r ≡ notation-sizes ⌝ }
 {
     SIZES
 }
 
-fn name_keys() -> [u64; 4]
-    ensures { λ r. ⌜ r ≡ name-keys ⌝ }
+fn notation_keys() -> [u64; 4]
+    ensures { λ r. ⌜ r ≡ notation-keys ⌝ }
 {
     KEYS
 }
@@ -234,8 +234,8 @@ pub fn notation_named(name: &[u8]) -> u32
         return 0;
     }
     let number = key(name, 0, size);
-    let sizes = name_sizes();
-    let keys = name_keys();
+    let sizes = notation_sizes();
+    let keys = notation_keys();
     let mut i: u32 = 0;
     while i < NOTATIONS {
         let at = i as usize;

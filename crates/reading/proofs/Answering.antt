@@ -24,10 +24,10 @@ use Rattle.content.proofs.Naming.{all-in-at, terms-length, nth-term}
 use Rattle.checks.specs.Checks.{units-in, Checks}
 use Rattle.reading.proofs.Lettering.{spelt-at, letters-some, noted-at}
 use Rattle.reading.specs.Views.{reading-in}
-use Rattle.reading.specs.Answers.{answer, refused, Reads}
+use Rattle.reading.specs.Answers.{answer, refused-answer, ReadingAnswer}
 
 -- a label that no refusal is due for
-pub record Accepted (n : ℕ) (s : List ℕ) (k : Tens) (t : Lent) (x : List ℕ) (ds cs : List ℤ) (v : Verdicts) : Type 0 where
+pub record AcceptedAnswer (n : ℕ) (s : List ℕ) (k : Tens) (t : Lent) (x : List ℕ) (ds cs : List ℤ) (v : Verdicts) : Type 0 where
   pub is : reading-in s t x ds cs (answer k v) ≡ reading-of n k (map (term n (length s)) (units-in s t))
   pub primes : length cs ≡ 4
   pub letters : (i : ℕ) → i < count t → getD x (32 + i) 0 ≡ 0 → LettersIn s t x i
@@ -36,7 +36,7 @@ pub record Accepted (n : ℕ) (s : List ℕ) (k : Tens) (t : Lent) (x : List ℕ
 pub accepted₁ : {n : ℕ} {s p : List ℕ} {k : Tens} {e : List ℤ} {x : List ℕ} {v : Verdicts} {zs : List ℤ} → AllNamed n s (lent p e) x
     → ((s : List ℕ) (t : Lent) → VerdictsOn n (terms-in s t x (count (lent p e))) v)
     → AddedUp k e x (count (lent p e)) zs
-    → Accepted n s k (lent p e) x (take 32 zs) (drop 32 zs) v
+    → AcceptedAnswer n s k (lent p e) x (take 32 zs) (drop 32 zs) v
 unfolding reading-in reading-of
 accepted₁ {n} {s} {p} {k} {e} w v a = record {
   is = rw (v s (lent p e) .known-is, v s (lent p e) .lawful-is, v s (lent p e) .recommended-is, a .dimensions s p, a .scale s p, w .is);
@@ -57,7 +57,7 @@ module _ {n : ℕ} {s : List ℕ} {z : Lent} {c : Checked} (w : Checks n s z c) 
     refuses : checked n s ≡ refuse (c .number)
     refuses = w .is ∙ rw (not-true (c .ok) t)
 
-    pub read₁ : {x : List ℕ} {ds cs : List ℤ} → Reads n s z x ds cs (refused (c .number))
+    pub read₁ : {x : List ℕ} {ds cs : List ℤ} → ReadingAnswer n s z x ds cs (refused-answer (c .number))
     unfolding reading answered refusal
     read₁ = let h = refused-number n s refuses in record {
       number = sym (rw refuses);
@@ -77,7 +77,7 @@ module _ {n : ℕ} {s : List ℕ} {z : Lent} {c : Checked} (w : Checks n s z c) 
     pub read-nameable : Nameable s z
     read-nameable = let y = not-false (c .ok) t in record { short = w .short y; few = w .few y; inside = w .inside y }
 
-    pub read₂ : {x : List ℕ} {ds cs : List ℤ} {v : Verdicts} → Accepted n s (c .k) z x ds cs v → Reads n s z x ds cs (answer (c .k) v)
+    pub read₂ : {x : List ℕ} {ds cs : List ℤ} {v : Verdicts} → AcceptedAnswer n s (c .k) z x ds cs v → ReadingAnswer n s z x ds cs (answer (c .k) v)
     unfolding reading answered reading-of reading-in
     read₂ {x} {ds} {cs} {v} a = record {
       number = ap (λ (u : spec.Reading). u .number) whole;
@@ -106,7 +106,7 @@ read-few w t = read-nameable w t .few
 -- WHAT THE ARRAYS HOLD
 
 -- term i of the reading, by the arrays
-pub term-read : {n : ℕ} {s : List ℕ} {t : Lent} {x : List ℕ} {ds cs : List ℤ} {r : Answer} → Reads n s t x ds cs r → r .number ≡ 0
+pub term-read : {n : ℕ} {s : List ℕ} {t : Lent} {x : List ℕ} {ds cs : List ℤ} {r : Answer} → ReadingAnswer n s t x ds cs r → r .number ≡ 0
     → (i : ℕ) (d : spec.Term) → i < count t → getD (reading n s .terms) i d ≡ term-in s t x i
 unfolding reading-in
 term-read {n} {s} {t} {x} w zero i d h =
@@ -117,7 +117,7 @@ unfolding answered refusal reading-of dimensions-of up-to
 every-base n s (spec.refuse i) = refl
 every-base n s (spec.accept v) = refl
 
-pub dimensions-room : {n : ℕ} {s : List ℕ} {t : Lent} {x : List ℕ} {ds cs : List ℤ} {r : Answer} → Reads n s t x ds cs r → r .number ≡ 0 → length ds ≡ 32
+pub dimensions-room : {n : ℕ} {s : List ℕ} {t : Lent} {x : List ℕ} {ds cs : List ℤ} {r : Answer} → ReadingAnswer n s t x ds cs r → r .number ≡ 0 → length ds ≡ 32
 unfolding reading reading-in
 dimensions-room {n} {s} {ds = ds} w zero =
     sym (length-map ds exponent) ∙ ap (λ (u : spec.Reading). length (u .dimensions)) (w .is zero) ∙ every-base n s (checked n s)

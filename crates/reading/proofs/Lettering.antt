@@ -10,9 +10,9 @@ use Rattle.label.specs.Bytes.{run, past}
 use Rattle.label.specs.Ranges.{between}
 use Rattle.label.specs.Symbols.{unquoted}
 use Rattle.label.specs.Reading.{Term}
-use Rattle.label.specs.Letters.{name-of, letters-from, letters-of}
+use Rattle.label.specs.Letters.{prefix-letters, letters-from, letters-of}
 use Rattle.label.proofs.Basics.{run-past}
-use Rattle.label.proofs.Lettering.{Spelt, TermSpelt, AllSpelt, before-plain, before-quoted}
+use Rattle.label.proofs.Lettering.{SpelledAs, TermSpelt, AllSpelt, before-plain, before-quoted}
 use Rattle.label.proofs.Between.{length-between}
 use Rattle.symbols.specs.Views.{place, LettersAt}
 use Rattle.descent.specs.Terms.{Lent}
@@ -35,10 +35,10 @@ spelt-at s t x (suc n) i w h = let r = all-but-last (terms-in s t x n) (term-in 
 
 -- AN UNKNOWN UNIT HAS LETTERS
 
-some-by-code : (c : ℕ) (p : Option ℕ) (m : List ℕ) {l : List ℕ} → c ≡ 0 → Spelt l (by-code c p m) → 0 < length m
+some-by-code : (c : ℕ) (p : Option ℕ) (m : List ℕ) {l : List ℕ} → c ≡ 0 → SpelledAs l (by-code c p m) → 0 < length m
 unfolding by-code
-some-by-code zero p m e (Spelt.plain w i h) = h
-some-by-code zero p m e (Spelt.in-quotes r w h) = h
+some-by-code zero p m e (SpelledAs.plain w i h) = h
+some-by-code zero p m e (SpelledAs.in-quotes r w h) = h
 some-by-code (suc c) p m e w = absurd (omega arith)
 
 between-some : (s : List ℕ) (a z : ℕ) → 0 < length (between s a z) → a < z
@@ -61,32 +61,32 @@ module _ (s : List ℕ) (start end first last : ℕ) (p : Option ℕ) where
   abbrev letters : List ℕ
   letters = between s first last
 
-  abbrev Noted : ℕ → Type 0
-  Noted c =
+  abbrev NotedLetters : ℕ → Type 0
+  NotedLetters c =
       (first ≡ letters-from (by-code c p letters) start (end - start))
       × (last ≡ letters-from (by-code c p letters) start (end - start) + length (letters-of (by-code c p letters)))
 
   module _ {l : List ℕ} (e : between s start end ≡ l) (q : end - start ≡ length l) (f : start ≤ end) (g : end ≤ length s) where
-    unknown-noted : first ≤ last → last ≤ end → LettersAt s start end first last → Spelt l (by-code 0 p letters) → Noted 0
+    unknown-noted : first ≤ last → last ≤ end → LettersAt s start end first last → SpelledAs l (by-code 0 p letters) → NotedLetters 0
     unfolding by-code letters-from letters-of
-    unknown-noted h k w (Spelt.plain z i o) =
+    unknown-noted h k w (SpelledAs.plain z i o) =
         let m : length letters ≡ last - first = length-between s first last (omega arith) in
-        let size : end - start ≡ length (name-of p) + length letters = q ∙ ap length i ∙ length-append (name-of p) letters in
+        let size : end - start ≡ length (prefix-letters p) + length letters = q ∙ ap length i ∙ length-append (prefix-letters p) letters in
         let b = before-plain p letters (end - start) size in
         let y : last ≡ end = w .plain (ap (past unquoted) e ∙ z) in
         rw b (omega (arith, m, size, y))
-    unknown-noted h k w (Spelt.in-quotes r z o) =
+    unknown-noted h k w (SpelledAs.in-quotes r z o) =
         let m : length letters ≡ last - first = length-between s first last (omega arith) in
-        let i : l ≡ name-of p ++ (39 ∷ (letters ++ (39 ∷ []))) = run-past unquoted l ∙ rw (r, z) in
-        let size : end - start ≡ length (name-of p) + suc (length letters + 1) =
-        q ∙ ap length i ∙ length-append (name-of p) (39 ∷ (letters ++ (39 ∷ []))) ∙ ap (λ (j : ℕ). length (name-of p) + suc j) (length-append letters (39 ∷ [])) in
+        let i : l ≡ prefix-letters p ++ (39 ∷ (letters ++ (39 ∷ []))) = run-past unquoted l ∙ rw (r, z) in
+        let size : end - start ≡ length (prefix-letters p) + suc (length letters + 1) =
+        q ∙ ap length i ∙ length-append (prefix-letters p) (39 ∷ (letters ++ (39 ∷ []))) ∙ ap (λ (j : ℕ). length (prefix-letters p) + suc j) (length-append letters (39 ∷ [])) in
         let b = before-quoted p letters (end - start) size in
         let y : first ≡ start + suc (length (run unquoted (between s start end))) = w .quoted 39 (letters ++ (39 ∷ [])) (ap (past unquoted) e ∙ z) in
-        let n : length (run unquoted (between s start end)) ≡ length (name-of p) = ap (λ (u : List ℕ). length (run unquoted u)) e ∙ ap length r in
+        let n : length (run unquoted (between s start end)) ≡ length (prefix-letters p) = ap (λ (u : List ℕ). length (run unquoted u)) e ∙ ap length r in
         rw b (omega (arith, m, y, n))
 
     letters-noted : (c : ℕ) → (c ≡ 0 → (first ≤ last) × ((last ≤ end) × LettersAt s start end first last)) → (0 < c → (first ≡ 0) × (last ≡ 0))
-        → Spelt l (by-code c p letters) → Noted c
+        → SpelledAs l (by-code c p letters) → NotedLetters c
     unfolding by-code letters-from letters-of
     letters-noted zero u v w = let h = u refl in unknown-noted (h .0) (h .1 .0) (h .1 .1) w
     letters-noted (suc c) u v w = let h = v (omega arith) in (h .0, h .1)

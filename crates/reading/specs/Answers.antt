@@ -8,29 +8,29 @@ use lib.ListN.{length, getD}
 use Rattle.label.specs.declared.Tens.{Tens}
 use Rattle.label.specs.Reading.{reading}
 use Rattle.label.specs.Letters.{letters-start, letters-size}
-use Rattle.descent.specs.Terms.{Lent, count, Empty}
+use Rattle.descent.specs.Terms.{Lent, count, NoTerms}
 use Rattle.content.specs.declared.verdicts.Verdicts.{Verdicts}
 use Rattle.content.specs.Views.{term-in}
 use Rattle.content.specs.Named.{Nameable}
-use Rattle.content.specs.Sums.{zeros}
+use Rattle.content.specs.Sums.{zero-sums}
 use Rattle.reading.specs.declared.read.Answer.{Answer}
 use Rattle.reading.specs.Views.{reading-in}
 
 -- arrays to read into: no term yet, and sums of nothing
 pub record Fresh (t : Lent) (x : List ℕ) (zs : List ℤ) : Type 0 where
-  pub terms : Empty t
+  pub terms : NoTerms t
   pub names : length x ≡ 128
-  pub sums : zs ≡ zeros 36
+  pub sums : zs ≡ zero-sums 36
 
 abbrev pub answer : Tens → Verdicts → Answer
 answer k v = record { number = 0; k = k; known = v .known; lawful = v .lawful; recommended = v .recommended }
 
 -- "A refused reading has .. k = 0 .. and all verdicts no."
-abbrev pub refused : ℕ → Answer
-refused i = record { number = i; k = record { 0 = pos 0 }; known = false; lawful = false; recommended = false }
+abbrev pub refused-answer : ℕ → Answer
+refused-answer i = record { number = i; k = record { 0 = pos 0 }; known = false; lawful = false; recommended = false }
 
 -- the letters of the unknown unit of term i, one or more, are in the term's spelling
-pub record Lettered (t : Lent) (x : List ℕ) (i : ℕ) : Type 0 where
+pub record LettersInTerm (t : Lent) (x : List ℕ) (i : ℕ) : Type 0 where
   pub from : getD (t .places) i 0 ≤ getD x (64 + i) 0
   pub some : getD x (64 + i) 0 < getD x (96 + i) 0
   pub upto : getD x (96 + i) 0 ≤ getD (t .places) (32 + i) 0
@@ -42,12 +42,12 @@ pub record LettersNoted (s : List ℕ) (t : Lent) (x : List ℕ) (i : ℕ) : Typ
 
 -- "what reading the text s in notation n answers": the number; and where it is 0, all else. Then there are four exponents of primes, and
 -- at most 32 terms, whose spellings are in the label, and the letters of an unknown unit are in its term's spelling.
-pub record Reads (n : ℕ) (s : List ℕ) (t : Lent) (x : List ℕ) (ds cs : List ℤ) (r : Answer) : Type 0 where
+pub record ReadingAnswer (n : ℕ) (s : List ℕ) (t : Lent) (x : List ℕ) (ds cs : List ℤ) (r : Answer) : Type 0 where
   pub number : r .number ≡ reading n s .number
-  pub empty : 0 < r .number → r ≡ refused (r .number)
+  pub empty : 0 < r .number → r ≡ refused-answer (r .number)
   pub is : r .number ≡ 0 → reading-in s t x ds cs r ≡ reading n s
   pub primes : r .number ≡ 0 → length cs ≡ 4
   pub counted : r .number ≡ 0 → count t ≡ length (reading n s .terms)
   pub within : r .number ≡ 0 → Nameable s t
-  pub letters : r .number ≡ 0 → (i : ℕ) → i < count t → getD x (32 + i) 0 ≡ 0 → Lettered t x i
+  pub letters : r .number ≡ 0 → (i : ℕ) → i < count t → getD x (32 + i) 0 ≡ 0 → LettersInTerm t x i
   pub noted : r .number ≡ 0 → (i : ℕ) → i < count t → LettersNoted s t x i

@@ -6,7 +6,7 @@ use content::verdicts::verdicts_on;
 use label::Tens;
 ghost use lib.ListN.{take, drop};
 ghost use Rattle.descent.specs.Terms.{lent};
-ghost use Rattle.reading.specs.Answers.{Fresh, Reads};
+ghost use Rattle.reading.specs.Answers.{Fresh, ReadingAnswer};
 
 // What a reading has beside its arrays.
 pub struct Answer {
@@ -30,7 +30,7 @@ pub fn read(
     sums: &mut [i64; 36],
 ) -> Answer
     requires { ⌜ Fresh (lent (now places) (now exponents)) (now names) (now sums) ⌝ }
-    ensures { λ r. ⌜ Reads n (now (s .entry)) (lent (now (places .exit)) (now (exponents .exit)))
+    ensures { λ r. ⌜ ReadingAnswer n (now (s .entry)) (lent (now (places .exit)) (now (exponents .exit)))
         (now (names .exit)) (take 32 (now (sums .exit))) (drop 32 (now (sums .exit))) r ⌝ }
 {
     let c = check(n, s, places, exponents);

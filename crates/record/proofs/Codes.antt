@@ -17,7 +17,7 @@ use Rattle.record.specs.Record.{code, prefix-code, unit-code}
 
 -- CODES FIT A BYTE
 
-pub record Small (x : Symbol) : Type 0 where
+pub record SmallCodes (x : Symbol) : Type 0 where
   pub prefix : prefix-code x < 2 ^ 8
   pub unit : unit-code x < 2 ^ 8
 
@@ -64,7 +64,7 @@ unit-cut-small n k l = go (prefix-cut k l) (unit-named n (drop k l)) (unit-small
     go none u h = omega arith
     go (some i) u h = h
 
-chosen-small : (l : List ℕ) (p u q v : Option ℕ) → code p < 2 ^ 8 → code u < 2 ^ 8 → code q < 2 ^ 8 → code v < 2 ^ 8 → Small (chosen l p u q v)
+chosen-small : (l : List ℕ) (p u q v : Option ℕ) → code p < 2 ^ 8 → code u < 2 ^ 8 → code q < 2 ^ 8 → code v < 2 ^ 8 → SmallCodes (chosen l p u q v)
 unfolding chosen prefix-code unit-code
 chosen-small l p (some u) q v a b c d = record { prefix = a; unit = b }
 chosen-small l p none q (some v) a b c d = record { prefix = c; unit = d }
@@ -72,17 +72,17 @@ chosen-small l (some i) none q none a b c d = record { prefix = a; unit = omega 
 chosen-small l none none (some j) none a b c d = record { prefix = c; unit = omega arith }
 chosen-small l none none none none a b c d = record { prefix = omega arith; unit = omega arith }
 
-whole-small : (n : ℕ) (l : List ℕ) (o : Option ℕ) → code o < 2 ^ 8 → Small (by-whole n l o)
+whole-small : (n : ℕ) (l : List ℕ) (o : Option ℕ) → code o < 2 ^ 8 → SmallCodes (by-whole n l o)
 unfolding by-whole prefix-code unit-code
 whole-small n l none h = rw (by-cut-is n l)
     (chosen-small l (prefix-cut 2 l) (unit-cut n 2 l) (prefix-cut 1 l) (unit-cut n 1 l) (prefix-cut-small 2 l) (unit-cut-small n 2 l) (prefix-cut-small 1 l) (unit-cut-small n 1 l))
 whole-small n l (some u) h = record { prefix = omega arith; unit = h }
 
-pub symbol-small : (n : ℕ) (l : List ℕ) → Small (symbol n l)
+pub symbol-small : (n : ℕ) (l : List ℕ) → SmallCodes (symbol n l)
 unfolding symbol by-quote prefix-code unit-code
 symbol-small n l = go (past unquoted l)
   where
-    go : (q : List ℕ) → Small (by-quote n l (run unquoted l) q)
+    go : (q : List ℕ) → SmallCodes (by-quote n l (run unquoted l) q)
     go [] = whole-small n l (unit-named n l) (unit-small n l)
     go (c ∷ q) = record { prefix = prefix-small (run unquoted l); unit = omega arith }
 

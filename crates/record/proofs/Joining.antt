@@ -19,7 +19,7 @@ use Rattle.label.specs.Units.{base-count}
 use Rattle.reading.specs.Answers.{LettersNoted}
 use Rattle.record.specs.Recordable.{AllNoted}
 use Rattle.record.specs.Record.{field-size, fields-in-head, fields-in-term, fields-in-scale, head-size, term-place, dimensions-place, record-size}
-use Rattle.record.specs.Record.{complement, digits, eight, encoded, term-fields, terms-fields, empty-fields, sixtieths, scale-fields, head-of, head-fields, fields, record-of}
+use Rattle.record.specs.Record.{complement, digits, eight, encoded, term-fields, terms-fields, empty-fields, sixtieths-of, scale-fields, head-of, head-fields, fields, record-of}
 
 pub encoded-join : (xs ys : List ℤ) → encoded (xs ++ ys) ≡ encoded xs ++ encoded ys
 unfolding encoded
@@ -107,7 +107,7 @@ module _ (head ts sums : List ℤ) (count : ℕ) (b₀ b₁ b₂ b₃ b₄ : Lis
 
 -- THE RECORD
 
-same-sixtieths : (zs : List ℤ) → map sixtieths (map exponent zs) ≡ zs
+same-sixtieths : (zs : List ℤ) → map sixtieths-of (map exponent zs) ≡ zs
 same-sixtieths [] = refl
 same-sixtieths (z ∷ zs) = ap (λ (xs : List ℤ). z ∷ xs) (same-sixtieths zs)
 

@@ -97,8 +97,8 @@ unfoldable pub terms-fields : List Term → List ℤ
 terms-fields [] = []
 terms-fields (t ∷ ts) = term-fields t ++ terms-fields ts
 
-abbrev pub sixtieths : Exponent → ℤ
-sixtieths e = e .0
+abbrev pub sixtieths-of : Exponent → ℤ
+sixtieths-of e = e .0
 
 -- number, k, verdicts, and how many terms
 abbrev pub head-of : ℕ → Tens → Bool → Bool → Bool → ℕ → List ℤ
@@ -119,7 +119,7 @@ unfoldable pub fields : Reading → List ℤ
 fields r =
     head-fields r
     ++ (terms-fields (r .terms)
-    ++ (empty-fields (most-terms - length (r .terms)) ++ (map sixtieths (r .dimensions) ++ scale-fields (r .scale))))
+    ++ (empty-fields (most-terms - length (r .terms)) ++ (map sixtieths-of (r .dimensions) ++ scale-fields (r .scale))))
 
 unfoldable pub record-of : Reading → List ℕ
 record-of r = encoded (fields r)

@@ -7,23 +7,23 @@ use mathlib.Core.Option.{some}
 use lib.ListN.{length}
 use Rattle.label.specs.Ranges.{between}
 use Rattle.label.specs.Writing.{in-quotes}
-use Rattle.rewriting.specs.declared.form.Form.{Form}
-use Rattle.rewriting.specs.Texts.{room, formless, Writes}
+use Rattle.rewriting.specs.declared.form.UnitForm.{UnitForm}
+use Rattle.rewriting.specs.Texts.{text-room, formless, WritesText}
 use Rattle.rewriting.specs.Letters.{letters-of}
 use Rattle.rewriting.specs.Forms.{text-by, form-text}
 use Rattle.rewriting.proofs.TextLaws.{writes-none, writes-both}
 
-module _ (s : List ℕ) (f : Form) {b : List ℕ} {at : ℕ} where
-  pub formless-written : f .kind ≡ 0 → length b ≡ room → Writes b at (form-text s f) b formless
+module _ (s : List ℕ) (f : UnitForm) {b : List ℕ} {at : ℕ} where
+  pub formless-written : f .kind ≡ 0 → length b ≡ text-room → WritesText b at (form-text s f) b formless
   unfolding form-text text-by
   formless-written k h = rw k (writes-none h)
 
-  pub plainly-written : {c d : List ℕ} {p q : ℕ} → f .kind ≡ 1 → Writes b at (some (letters-of 2 (f .prefix))) c p
-      → Writes c p (some (letters-of 8 (f .name) ++ between s (f .start) (f .end))) d q → Writes b at (form-text s f) d q
+  pub plainly-written : {c d : List ℕ} {p q : ℕ} → f .kind ≡ 1 → WritesText b at (some (letters-of 2 (f .prefix))) c p
+      → WritesText c p (some (letters-of 8 (f .name) ++ between s (f .start) (f .end))) d q → WritesText b at (form-text s f) d q
   unfolding form-text text-by
   plainly-written k v w = rw k (writes-both v w)
 
   pub quoted-written : {d : List ℕ} {q : ℕ} → (f .kind ≡ 0 → ⊥) → (f .kind ≡ 1 → ⊥)
-      → Writes b at (some (letters-of 2 (f .prefix) ++ in-quotes (letters-of 8 (f .name) ++ between s (f .start) (f .end)))) d q → Writes b at (form-text s f) d q
+      → WritesText b at (some (letters-of 2 (f .prefix) ++ in-quotes (letters-of 8 (f .name) ++ between s (f .start) (f .end)))) d q → WritesText b at (form-text s f) d q
   unfolding form-text text-by
   quoted-written k h w = let e : f .kind ≡ suc (suc (f .kind - 2)) = omega arith in rw e w

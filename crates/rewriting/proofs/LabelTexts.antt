@@ -15,34 +15,34 @@ use Rattle.label.specs.Symbols as spec
 use Rattle.label.specs.Reading.{Term, exponent}
 use Rattle.label.specs.Writing.{Writable, factor-text, symbol-text, both-texts, unit-text, more-text, label-text, own-letters, writable}
 use Rattle.label.specs.Rows.{Style}
-use Rattle.symbols.specs.declared.Symbol.{Symbol}
+use Rattle.symbols.specs.declared.SymbolAt.{SymbolAt}
 use Rattle.symbols.specs.Views.{symbol-in}
 use Rattle.label.proofs.Between.{drop-between}
 use Rattle.descent.specs.Terms.{Lent, count}
 use Rattle.content.specs.Views.{by-code, symbol-at, term-in, terms-in}
-use Rattle.rewriting.specs.declared.form.Form.{Form}
+use Rattle.rewriting.specs.declared.form.UnitForm.{UnitForm}
 use Rattle.rewriting.specs.declared.name.Own.{Own}
 use Rattle.rewriting.specs.declared.unit.SourceTerm.{SourceTerm}
-use Rattle.rewriting.specs.Texts.{room, Holds, Writes}
+use Rattle.rewriting.specs.Texts.{text-room, HoldsText, WritesText}
 use Rattle.rewriting.specs.Names.{OwnOf}
 use Rattle.rewriting.specs.Forms.{form-text, raised-text, joint-before}
-use Rattle.rewriting.specs.Units.{PrefixCode, Lettered, Owns, SymbolAt, TermOf, own-at, TermIs}
+use Rattle.rewriting.specs.Units.{PrefixCode, LettersInside, Owns, SymbolFrom, TermOf, own-at, TermIs}
 use Rattle.rewriting.proofs.TextLaws.{both-assoc, both-empty, both-start, writes-nothing, writes-then}
 
 -- A TERM
 
 -- the unit of a term
-module _ {x : List ℕ} {i : ℕ} {r : Symbol} (p : r .prefix ≡ getD x i 0) (a : r .start ≡ getD x (64 + i) 0) (z : r .end ≡ getD x (96 + i) 0) where
-  pub unknown-at : r .known ≡ false → getD x (32 + i) 0 ≡ 0 → SymbolAt x i r
+module _ {x : List ℕ} {i : ℕ} {r : SymbolAt} (p : r .prefix ≡ getD x i 0) (a : r .start ≡ getD x (64 + i) 0) (z : r .end ≡ getD x (96 + i) 0) where
+  pub unknown-at : r .known ≡ false → getD x (32 + i) 0 ≡ 0 → SymbolFrom x i r
   unfolding symbol-in symbol-at by-code
   unknown-at k e = record { is = λ s. rw (k, p, a, z, e); unknown = λ _. e; start = a; end = z }
 
-  pub known-at : r .known ≡ true → suc (r .unit) ≡ getD x (32 + i) 0 → SymbolAt x i r
+  pub known-at : r .known ≡ true → suc (r .unit) ≡ getD x (32 + i) 0 → SymbolFrom x i r
   unfolding symbol-in symbol-at by-code
   known-at k e = record { is = λ s. rw (k, p, ← e); unknown = λ q. absurd (false-true (sym q ∙ k)); start = a; end = z }
 
-module _ {s p x : List ℕ} {i : ℕ} (w : TermOf s p x i) {u : Symbol} (v : SymbolAt x i u) {code : ℕ} (c : PrefixCode (u .prefix) code) where
-  lettered : Lettered s u
+module _ {s p x : List ℕ} {i : ℕ} (w : TermOf s p x i) {u : SymbolAt} (v : SymbolFrom x i u) {code : ℕ} (c : PrefixCode (u .prefix) code) where
+  lettered : LettersInside s u
   lettered = record {
     forward = λ e. rw (v .start, v .end) (w .from (v .unknown e));
     within = λ e. rw (v .end) (w .upto (v .unknown e));
@@ -56,10 +56,10 @@ module _ {s p x : List ℕ} {i : ℕ} (w : TermOf s p x i) {u : Symbol} (v : Sym
   term-is o = record { unit = v .is s; lettered = lettered; own = record { owns = λ e. rw (own-part e) o } }
 
 -- a term in the form that its unit takes
-pub term-written : (y : Style) (m : ℕ) (s : List ℕ) (t : Lent) (x : List ℕ) (i : ℕ) (f : Form) {r : SourceTerm} {e : ℤ} {b c : List ℕ} {at q : ℕ}
-    → Writes b at (raised-text y s f (exponent e)) c q → TermIs s (t .places) x i r
+pub term-written : (y : Style) (m : ℕ) (s : List ℕ) (t : Lent) (x : List ℕ) (i : ℕ) (f : UnitForm) {r : SourceTerm} {e : ℤ} {b c : List ℕ} {at q : ℕ}
+    → WritesText b at (raised-text y s f (exponent e)) c q → TermIs s (t .places) x i r
     → ((own : List ℕ) → Owns own r → form-text s f ≡ symbol-text y m own (symbol-in s (r .unit))) → e ≡ getD (t .exponents) i (pos 0)
-    → Writes b at (unit-text y m (writable s (term-in s t x i))) c q
+    → WritesText b at (unit-text y m (writable s (term-in s t x i))) c q
 unfolding unit-text writable
 term-written y m s t x i f w v g p =
     rw (← p, ← g (own-at s (t .places) x i) (v .own) ∙ ap (λ (u : spec.Symbol). symbol-text y m (own-at s (t .places) x i) u) (v .unit)) w
@@ -106,20 +106,20 @@ text-of y m s t x i = terms-text y m (map (writable s) (terms-in s t x i))
 -- from the array b and the place at, the first i terms are written
 pub record Termed (y : Style) (m : ℕ) (s : List ℕ) (t : Lent) (x b : List ℕ) (at : ℕ) (c : List ℕ) (r i : ℕ) : Type 0 where
   pub upto : i ≤ count t
-  pub written : Writes b at (text-of y m s t x i) c r
+  pub written : WritesText b at (text-of y m s t x i) c r
 
 module _ (y : Style) (m : ℕ) (s : List ℕ) (t : Lent) (x : List ℕ) where
-  pub no-term-yet : {b : List ℕ} {at : ℕ} → length b ≡ room → Termed y m s t x b at b at 0
+  pub no-term-yet : {b : List ℕ} {at : ℕ} → length b ≡ text-room → Termed y m s t x b at b at 0
   unfolding terms-in terms-text
   no-term-yet g = record { upto = omega arith; written = writes-nothing g }
 
-  pub no-terms : (k : Tens) (b : List ℕ) → count t ≡ 0 → Holds b 0 (label-text y m k (map (writable s) (terms-in s t x (count t))))
+  pub no-terms : (k : Tens) (b : List ℕ) → count t ≡ 0 → HoldsText b 0 (label-text y m k (map (writable s) (terms-in s t x (count t))))
   unfolding terms-in label-text
-  no-terms k b e = rw e (Holds.short [] refl refl (omega arith) refl)
+  no-terms k b e = rw e (HoldsText.short [] refl refl (omega arith) refl)
 
 module _ {y : Style} {m : ℕ} {s : List ℕ} {t : Lent} {x b c : List ℕ} {at r i : ℕ} (l : Termed y m s t x b at c r i) where
-  pub next-term : {d e : List ℕ} {p q : ℕ} → i < count t → Writes c r (some (joint-before y i)) d p
-      → Writes d p (unit-text y m (writable s (term-in s t x i))) e q → Termed y m s t x b at e q (i + 1)
+  pub next-term : {d e : List ℕ} {p q : ℕ} → i < count t → WritesText c r (some (joint-before y i)) d p
+      → WritesText d p (unit-text y m (writable s (term-in s t x i))) e q → Termed y m s t x b at e q (i + 1)
   unfolding terms-in
   next-term h v w = record {
     upto = omega arith;
@@ -131,12 +131,12 @@ module _ {y : Style} {m : ℕ} {s : List ℕ} {t : Lent} {x b c : List ℕ} {at 
     ) (writes-then (l .written) (writes-then v w));
   }
 
-  pub all-terms : (k : Tens) {a : List ℕ} → (count t ≡ 0 → ⊥) → count t ≤ i → Writes a 0 (some (factor-text y k)) b at
-      → Holds c r (label-text y m k (map (writable s) (terms-in s t x (count t))))
+  pub all-terms : (k : Tens) {a : List ℕ} → (count t ≡ 0 → ⊥) → count t ≤ i → WritesText a 0 (some (factor-text y k)) b at
+      → HoldsText c r (label-text y m k (map (writable s) (terms-in s t x (count t))))
   all-terms k h g w =
       let e : i ≡ count t = omega (arith, l .upto) in
       rw (
         ← e,
         label-terms y m k (map (writable s) (terms-in s t x i)) (rw (terms-length s t x i) (omega arith)),
         ← both-start (both-texts (some (factor-text y k)) (text-of y m s t x i)),
-      ) (writes-then w (l .written) .adds (some []) (Holds.short [] refl refl (omega arith) refl))
+      ) (writes-then w (l .written) .adds (some []) (HoldsText.short [] refl refl (omega arith) refl))

@@ -44,7 +44,7 @@ letters-most (suc n) k = go (eqb k 0) (letters-most n (k / 256))
 -- COMPARED ONE BY ONE
 
 -- before i and j the letters of s and of t are the same
-pub record Comparing (s : List ℕ) (start end : ℕ) (t : List ℕ) (from to i j : ℕ) : Type 0 where
+pub record ComparingLetters (s : List ℕ) (start end : ℕ) (t : List ℕ) (from to i j : ℕ) : Type 0 where
   pub before : i ≤ end
   pub within : end ≤ length s
   pub other-before : j ≤ to
@@ -60,10 +60,10 @@ compare-longer s start end t from to a b c d h = go (same (between s start end) 
     go false e = refl
 
 module _ {s : List ℕ} {start end : ℕ} {t : List ℕ} {from to : ℕ} where
-  pub compare-start : start ≤ end → end ≤ length s → from ≤ to → to ≤ length t → end - start ≡ to - from → Comparing s start end t from to start from
+  pub compare-start : start ≤ end → end ≤ length s → from ≤ to → to ≤ length t → end - start ≡ to - from → ComparingLetters s start end t from to start from
   compare-start a b c d e = record { before = a; within = b; other-before = c; other-within = d; level = e; rest = refl }
 
-  module _ {i j : ℕ} (w : Comparing s start end t from to i j) where
+  module _ {i j : ℕ} (w : ComparingLetters s start end t from to i j) where
     pub compare-all : end ≤ i → true ≡ same (between s start end) (between t from to)
     unfolding same
     compare-all h =
@@ -79,7 +79,7 @@ module _ {s : List ℕ} {start end : ℕ} {t : List ℕ} {from to : ℕ} where
       unfolding same
       compare-differ d = sym (w .rest ∙ first ∙ rw (ne-eqb (getD s i 0) (getD t j 0) d))
 
-      pub compare-more : getD s i 0 ≡ getD t j 0 → Comparing s start end t from to (i + 1) (j + 1)
+      pub compare-more : getD s i 0 ≡ getD t j 0 → ComparingLetters s start end t from to (i + 1) (j + 1)
       unfolding same
       compare-more e = record {
         before = omega arith;

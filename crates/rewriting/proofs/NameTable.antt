@@ -19,7 +19,8 @@ use Rattle.label.specs.Ranges.{between}
 use Rattle.label.specs.Prefixes.{Prefix, prefixes}
 use Rattle.label.specs.Units.{Name, KnownUnit, bare, ten-to, units, unit-at}
 use Rattle.label.specs.Symbols.{has-name}
-use Rattle.label.specs.Writing.{name-among, name-in, prefix-letters}
+use Rattle.label.specs.Letters.{prefix-letters}
+use Rattle.label.specs.Writing.{name-among, name-in}
 use Rattle.symbols.specs.Keys.{most-letters, key-from, key-of, agrees}
 use Rattle.symbols.specs.Sets.{has-bit}
 use Rattle.symbols.specs.Names.{Entry, entries-of, entries-from, names}
@@ -27,13 +28,13 @@ use Rattle.symbols.specs.Columns.{name-count, unit-count, name-keys, name-codes
 use Rattle.symbols.specs.Views.{place}
 use Rattle.symbols.proofs.Computing.{columns-compute}
 use Rattle.symbols.proofs.RowLaws.{every, every-at}
-use Rattle.symbols.proofs.KeyLaws.{keyable, long-other, Spelled, agrees-spelled}
+use Rattle.symbols.proofs.KeyLaws.{keyable, long-other, SpellingKey, agrees-spelled}
 use Rattle.symbols.proofs.NameLaws as laws
 use Rattle.symbols.proofs.PrefixLaws as prefix-laws
 use Rattle.rewriting.specs.declared.name.NameRange.{NameRange}
 use Rattle.rewriting.specs.declared.name.Own.{Own}
 use Rattle.rewriting.specs.Letters.{letters-of}
-use Rattle.rewriting.specs.Names.{entry, is-named, name-of, names-in, name-at, places-from, first-places, InTable, NamesOf, OwnOf}
+use Rattle.rewriting.specs.Names.{entry, is-named, entry-name, names-in, name-at, places-from, first-places, InTable, NamesOf, OwnOf}
 use Rattle.rewriting.specs.Units.{PrefixCode}
 
 entry-is : (i : ℕ) → laws.entry i ≡ entry i
@@ -71,7 +72,7 @@ name-short i =
 
 -- OWN NAMES
 
-pub own-spelled : {l : List ℕ} {size number : ℕ} → Spelled l size number → OwnOf l (record { size = size; number = number })
+pub own-spelled : {l : List ℕ} {size number : ℕ} → SpellingKey l size number → OwnOf l (record { size = size; number = number })
 own-spelled w = record { agree = λ i. rw (← entry-is i) (agrees-spelled w (laws.entry i .letters) (laws.letters-sound i)) }
 
 and-false : (b : Bool) → (b && false) ≡ false
@@ -95,7 +96,7 @@ own-empty s a e h =
     rw q (own-spelled (record { bytes = λ i. omega arith; size-is = refl; number-is = refl }))
 
 pub is-own : {ks cs l : List ℕ} {x : Own} (n i : ℕ) → NameColumns ks cs → OwnOf l x
-    → (agrees (x .size) (x .number) (getD cs i 0 / 65536) (getD ks i 0) && has-bit n (getD cs i 0 / 256 % 256)) ≡ is-named n l (name-of (entry i))
+    → (agrees (x .size) (x .number) (getD cs i 0 / 65536) (getD ks i 0) && has-bit n (getD cs i 0 / 256 % 256)) ≡ is-named n l (entry-name (entry i))
 is-own n i w o =
     rw (w .keys-are, w .codes-are, laws.key-at i, laws.code-at i, laws.code-sound i .0, laws.code-sound i .1 .0, entry-is i, o .agree i, ← entry-is i, laws.member-at i n)
 
@@ -112,7 +113,7 @@ no-names : (i end : ℕ) → end ≤ i → from i end ≡ []
 unfolding names-in
 no-names i end h = let e : end - i ≡ 0 = omega arith in rw e
 
-next-name : (i end : ℕ) → i < end → end ≤ name-count → from i end ≡ name-of (entry i) ∷ from (i + 1) end
+next-name : (i end : ℕ) → i < end → end ≤ name-count → from i end ≡ entry-name (entry i) ∷ from (i + 1) end
 unfolding names-in entry laws.nobody
 next-name i end h g =
     let e : end - i ≡ suc (end - suc i) = omega arith in
@@ -120,7 +121,7 @@ next-name i end h g =
 
 -- WHICH NAME IS TAKEN
 
-letters-own : (n i : ℕ) (l : List ℕ) → is-named n l (name-of (entry i)) ≡ true → some (entry i .letters) ≡ some l
+letters-own : (n i : ℕ) (l : List ℕ) → is-named n l (entry-name (entry i)) ≡ true → some (entry i .letters) ≡ some l
 letters-own n i l e = ap (λ (s : List ℕ). some s) (sym (same-is l (entry i .letters) (and-left (same l (entry i .letters)) _ e)))
 
 -- what a search answers for the names of x it also answers for those from place i on
@@ -136,14 +137,14 @@ module _ (answer : List Name → Option (List ℕ)) (x : NameRange) where
   look-end i e h w = sym e ∙ sym (ap answer (no-names i (x .end) h)) ∙ w .rest
 
   module _ (i : ℕ) (h : i < x .end) (g : InTable x) (w : Looking answer x i) where
-    ahead : answer (name-of (entry i) ∷ from (i + 1) (x .end)) ≡ answer (names-in x)
+    ahead : answer (entry-name (entry i) ∷ from (i + 1) (x .end)) ≡ answer (names-in x)
     ahead = sym (ap answer (next-name i (x .end) h (g .within))) ∙ w .rest
 
-    pub look-hit : answer (name-of (entry i) ∷ from (i + 1) (x .end)) ≡ some (entry i .letters) → name-at (i + 1) ≡ answer (names-in x)
+    pub look-hit : answer (entry-name (entry i) ∷ from (i + 1) (x .end)) ≡ some (entry i .letters) → name-at (i + 1) ≡ answer (names-in x)
     unfolding name-at
     look-hit e = rw (add-one i) (sym e ∙ ahead)
 
-    pub look-miss : answer (name-of (entry i) ∷ from (i + 1) (x .end)) ≡ answer (from (i + 1) (x .end)) → Looking answer x (i + 1)
+    pub look-miss : answer (entry-name (entry i) ∷ from (i + 1) (x .end)) ≡ answer (from (i + 1) (x .end)) → Looking answer x (i + 1)
     look-miss e = record { rest = sym e ∙ ahead }
 
 -- its own name
@@ -151,11 +152,11 @@ abbrev pub own-answer : ℕ → List ℕ → List Name → Option (List ℕ)
 own-answer n l xs = pick (has-name n l xs) (some l) none
 
 module _ (n : ℕ) (l : List ℕ) (i : ℕ) (ys : List Name) where
-  pub own-this : is-named n l (name-of (entry i)) ≡ true → own-answer n l (name-of (entry i) ∷ ys) ≡ some (entry i .letters)
+  pub own-this : is-named n l (entry-name (entry i)) ≡ true → own-answer n l (entry-name (entry i) ∷ ys) ≡ some (entry i .letters)
   unfolding has-name
   own-this e = rw e (sym (letters-own n i l e))
 
-  pub own-later : is-named n l (name-of (entry i)) ≡ false → own-answer n l (name-of (entry i) ∷ ys) ≡ own-answer n l ys
+  pub own-later : is-named n l (entry-name (entry i)) ≡ false → own-answer n l (entry-name (entry i) ∷ ys) ≡ own-answer n l ys
   unfolding has-name
   own-later e = rw e
 
@@ -208,7 +209,7 @@ unfolding entries-of
 entries-length i [] = refl
 entries-length i (x ∷ xs) = ap suc (entries-length i xs)
 
-entries-names : (i : ℕ) (xs : List Name) → map name-of (entries-of i xs) ≡ xs
+entries-names : (i : ℕ) (xs : List Name) → map entry-name (entries-of i xs) ≡ xs
 unfolding entries-of
 entries-names i [] = refl
 entries-names i (x ∷ xs) = ap (λ (ys : List Name). x ∷ ys) (entries-names i xs)
@@ -270,7 +271,7 @@ module _ (u : ℕ) (h : u < unit-count) where
 
   part-names : names-in (record { first = place-at u; end = place-at (suc u) }) ≡ unit-at u .names
   unfolding names-in place-at first-places names
-  part-names = ap (λ (es : List Entry). map name-of es) (part-of units 0 0 [] u refl (omega (arith, units-count))) ∙ entries-names (0 + u) (unit-at u .names)
+  part-names = ap (λ (es : List Entry). map entry-name es) (part-of units 0 0 [] u refl (omega (arith, units-count))) ∙ entries-names (0 + u) (unit-at u .names)
 
   pub unit-names : (first end : ℕ) → first ≡ getD first-places u 0 → end ≡ getD first-places (u + 1) 0 → NamesOf u (record { first = first; end = end })
   unfolding place-at

@@ -74,25 +74,25 @@ figures-more (suc f) n z h =
 -- DENOMINATORS
 
 -- what the search of the divisors qs finds, and that it is at most 60
-pub record Divides (e : ℕ) (qs : List ℕ) (r : ℕ) : Type 0 where
+pub record DenominatorFound (e : ℕ) (qs : List ℕ) (r : ℕ) : Type 0 where
   pub is : r ≡ denominator-among e qs
   pub small : r ≤ 60
 
-pub divides-here : (e q : ℕ) (qs : List ℕ) → e * q % 60 ≡ 0 → q ≤ 60 → Divides e (q ∷ qs) q
+pub divides-here : (e q : ℕ) (qs : List ℕ) → e * q % 60 ≡ 0 → q ≤ 60 → DenominatorFound e (q ∷ qs) q
 unfolding denominator-among
 divides-here e q qs h s = record { is = rw (eq-eqb (e * q % 60) 0 h, denominator-among); small = s }
 
-pub divides-later : {e q r : ℕ} {qs : List ℕ} → (e * q % 60 ≡ 0 → ⊥) → Divides e qs r → Divides e (q ∷ qs) r
+pub divides-later : {e q r : ℕ} {qs : List ℕ} → (e * q % 60 ≡ 0 → ⊥) → DenominatorFound e qs r → DenominatorFound e (q ∷ qs) r
 unfolding denominator-among
 divides-later {e} {q} h w = record { is = rw (ne-eqb (e * q % 60) 0 h, denominator-among) (w .is); small = w .small }
 
 -- 1, by the test of the number itself
-pub divides-one : (e : ℕ) (qs : List ℕ) → e % 60 ≡ 0 → Divides e (1 ∷ qs) 1
+pub divides-one : (e : ℕ) (qs : List ℕ) → e % 60 ≡ 0 → DenominatorFound e (1 ∷ qs) 1
 divides-one e qs h = let q : e * 1 ≡ e = omega arith in divides-here e 1 qs (rw q h) (omega arith)
 
-pub divides-not-one : {e r : ℕ} {qs : List ℕ} → (e % 60 ≡ 0 → ⊥) → Divides e qs r → Divides e (1 ∷ qs) r
+pub divides-not-one : {e r : ℕ} {qs : List ℕ} → (e % 60 ≡ 0 → ⊥) → DenominatorFound e qs r → DenominatorFound e (1 ∷ qs) r
 divides-not-one {e} h w = let q : e * 1 ≡ e = omega arith in divides-later (λ g. h (rw q at g)) w
 
 -- 60 makes a whole number of any
-pub divides-sixty : (e : ℕ) → Divides e (60 ∷ []) 60
+pub divides-sixty : (e : ℕ) → DenominatorFound e (60 ∷ []) 60
 divides-sixty e = divides-here e 60 [] (mul-mod-left e 60) (omega arith)

@@ -12,7 +12,7 @@ use Rattle.label.specs.declared.Tens.{Tens}
 use Rattle.label.specs.Choice.{pick}
 use Rattle.label.specs.Limits.{negative, denominator-of, lowest-terms}
 use Rattle.label.specs.Reading.{exponent}
-use Rattle.label.specs.Writing.{sign, figures, factor-text, whole-text, fraction-text, power-text, exponent-text}
+use Rattle.label.specs.Writing.{sign-text, figures, factor-text, whole-text, fraction-text, power-text, exponent-text}
 use Rattle.label.specs.Rows.{Style}
 
 module _ (y : Style) (b : Bool) (p q : ℕ) where
@@ -43,6 +43,6 @@ module _ (y : Style) (k : Tens) {n : ℕ} (e : n ≡ natAbs (k .0)) where
   unfolding factor-text
   factor-none z = rw (eq-eqb (natAbs (k .0)) 0 (sym e ∙ z))
 
-  pub factor-some : (n ≡ 0 → ⊥) → {b : Bool} → b ≡ negative (k .0) → factor-text y k ≡ (y .ten ++ (sign (y .signed) b ++ figures n)) ++ y .gap
+  pub factor-some : (n ≡ 0 → ⊥) → {b : Bool} → b ≡ negative (k .0) → factor-text y k ≡ (y .ten ++ (sign-text (y .signed) b ++ figures n)) ++ y .gap
   unfolding factor-text
   factor-some z f = rw (ne-eqb (natAbs (k .0)) 0 (λ q. z (e ∙ q)), f, e)

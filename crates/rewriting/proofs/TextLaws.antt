@@ -12,7 +12,7 @@ use Rattle.label.specs.Choice.{pick}
 use Rattle.label.specs.Ranges.{between}
 use Rattle.label.specs.Writing.{both-texts}
 use Rattle.label.proofs.Between.{between-none, between-cons, between-join}
-use Rattle.rewriting.specs.Texts.{room, too-long, formless, Holds, Writes}
+use Rattle.rewriting.specs.Texts.{text-room, too-long, formless, HoldsText, WritesText}
 
 -- a part and the byte after it
 part-snoc : (s : List ℕ) (a i : ℕ) → a ≤ i → i < length s → between s a (i + 1) ≡ between s a i ++ getD s i 0 ∷ []
@@ -45,58 +45,58 @@ both-none (some s) = refl
 -- PIECES
 
 -- nothing is written
-pub writes-nothing : {b : List ℕ} {at : ℕ} → length b ≡ room → Writes b at (some []) b at
+pub writes-nothing : {b : List ℕ} {at : ℕ} → length b ≡ text-room → WritesText b at (some []) b at
 writes-nothing {b} {at} h = record { kept = h; adds = λ x w. rw (both-empty x) w }
 
 -- a piece that has no form
-pub writes-none : {b c : List ℕ} {at : ℕ} → length c ≡ room → Writes b at none c formless
-writes-none h = record { kept = h; adds = λ x w. rw (both-none x) (Holds.nothing refl refl) }
+pub writes-none : {b c : List ℕ} {at : ℕ} → length c ≡ text-room → WritesText b at none c formless
+writes-none h = record { kept = h; adds = λ x w. rw (both-none x) (HoldsText.nothing refl refl) }
 
 -- two pieces
-pub writes-then : {b c d : List ℕ} {at r q : ℕ} {o p : Option (List ℕ)} → Writes b at o c r → Writes c r p d q → Writes b at (both-texts o p) d q
+pub writes-then : {b c d : List ℕ} {at r q : ℕ} {o p : Option (List ℕ)} → WritesText b at o c r → WritesText c r p d q → WritesText b at (both-texts o p) d q
 writes-then {o = o} {p = p} v w = record { kept = w .kept; adds = λ x h. rw (← both-assoc x o p) (w .adds (both-texts x o) (v .adds x h)) }
 
 -- two pieces that have a form
-pub writes-both : {b c d : List ℕ} {at r q : ℕ} {s t : List ℕ} → Writes b at (some s) c r → Writes c r (some t) d q → Writes b at (some (s ++ t)) d q
+pub writes-both : {b c d : List ℕ} {at r q : ℕ} {s t : List ℕ} → WritesText b at (some s) c r → WritesText c r (some t) d q → WritesText b at (some (s ++ t)) d q
 unfolding both-texts
 writes-both v w = writes-then v w
 
 -- the same piece under another name
-pub writes-as : {b c : List ℕ} {at r : ℕ} {o p : Option (List ℕ)} → o ≡ p → Writes b at p c r → Writes b at o c r
+pub writes-as : {b c : List ℕ} {at r : ℕ} {o p : Option (List ℕ)} → o ≡ p → WritesText b at p c r → WritesText b at o c r
 writes-as e w = rw e w
 
 -- ONE BYTE
 
-module _ {b : List ℕ} (h : length b ≡ room) (at byte : ℕ) where
+module _ {b : List ℕ} (h : length b ≡ text-room) (at byte : ℕ) where
   -- there is room
-  pub byte-fits : at < room → Writes b at (some (byte ∷ [])) (set b at byte) (at + 1)
+  pub byte-fits : at < text-room → WritesText b at (some (byte ∷ [])) (set b at byte) (at + 1)
   unfolding both-texts
   byte-fits l = record { kept = simp length-set h; adds = go }
     where
-      go : (x : Option (List ℕ)) → Holds b at x → Holds (set b at byte) (at + 1) (both-texts x (some (byte ∷ [])))
-      go x (Holds.short s e n k t) = rw e (Holds.short (s ++ byte ∷ []) refl (simp length-append (omega arith)) (omega arith) (rw (add-one at, take-suc-set b at byte (omega arith), t)))
-      go x (Holds.long s e n k) = absurd (omega arith)
-      go x (Holds.nothing e k) = absurd (omega arith)
+      go : (x : Option (List ℕ)) → HoldsText b at x → HoldsText (set b at byte) (at + 1) (both-texts x (some (byte ∷ [])))
+      go x (HoldsText.short s e n k t) = rw e (HoldsText.short (s ++ byte ∷ []) refl (simp length-append (omega arith)) (omega arith) (rw (add-one at, take-suc-set b at byte (omega arith), t)))
+      go x (HoldsText.long s e n k) = absurd (omega arith)
+      go x (HoldsText.nothing e k) = absurd (omega arith)
 
   -- the array is full
-  pub byte-over : at ≡ room → Writes b at (some (byte ∷ [])) b too-long
+  pub byte-over : at ≡ text-room → WritesText b at (some (byte ∷ [])) b too-long
   unfolding both-texts
   byte-over l = record { kept = h; adds = go }
     where
-      go : (x : Option (List ℕ)) → Holds b at x → Holds b too-long (both-texts x (some (byte ∷ [])))
-      go x (Holds.short s e n k t) = rw e (Holds.long (s ++ byte ∷ []) refl (simp length-append (omega arith)) refl)
-      go x (Holds.long s e n k) = absurd (omega arith)
-      go x (Holds.nothing e k) = absurd (omega arith)
+      go : (x : Option (List ℕ)) → HoldsText b at x → HoldsText b too-long (both-texts x (some (byte ∷ [])))
+      go x (HoldsText.short s e n k t) = rw e (HoldsText.long (s ++ byte ∷ []) refl (simp length-append (omega arith)) refl)
+      go x (HoldsText.long s e n k) = absurd (omega arith)
+      go x (HoldsText.nothing e k) = absurd (omega arith)
 
   -- the text is longer already, or has no form
-  pub byte-past : room < at → Writes b at (some (byte ∷ [])) b at
+  pub byte-past : text-room < at → WritesText b at (some (byte ∷ [])) b at
   unfolding both-texts
   byte-past l = record { kept = h; adds = go }
     where
-      go : (x : Option (List ℕ)) → Holds b at x → Holds b at (both-texts x (some (byte ∷ [])))
-      go x (Holds.short s e n k t) = absurd (omega arith)
-      go x (Holds.long s e n k) = rw e (Holds.long (s ++ byte ∷ []) refl (simp length-append (omega arith)) k)
-      go x (Holds.nothing e k) = rw e (Holds.nothing refl k)
+      go : (x : Option (List ℕ)) → HoldsText b at x → HoldsText b at (both-texts x (some (byte ∷ [])))
+      go x (HoldsText.short s e n k t) = absurd (omega arith)
+      go x (HoldsText.long s e n k) = rw e (HoldsText.long (s ++ byte ∷ []) refl (simp length-append (omega arith)) k)
+      go x (HoldsText.nothing e k) = rw e (HoldsText.nothing refl k)
 
 -- A PART OF A TEXT
 
@@ -105,14 +105,14 @@ pub record Appending (b : List ℕ) (at : ℕ) (s : List ℕ) (start end : ℕ) 
   pub after : start ≤ i
   pub before : i ≤ end
   pub within : end ≤ length s
-  pub room-left : length c ≡ room
-  pub written : Writes b at (some (between s start i)) c r
+  pub room-left : length c ≡ text-room
+  pub written : WritesText b at (some (between s start i)) c r
 
-pub append-start : (b : List ℕ) (at : ℕ) (s : List ℕ) (start end : ℕ) → length b ≡ room → start ≤ end → end ≤ length s → Appending b at s start end b at start
+pub append-start : (b : List ℕ) (at : ℕ) (s : List ℕ) (start end : ℕ) → length b ≡ text-room → start ≤ end → end ≤ length s → Appending b at s start end b at start
 append-start b at s start end h l g = record { after = omega arith; before = l; within = g; room-left = h; written = rw (between-none s start) (writes-nothing h) }
 
 pub append-more : {b c d : List ℕ} {at start end r q i : ℕ} {s : List ℕ} → Appending b at s start end c r i → i < end
-    → Writes c r (some (getD s i 0 ∷ [])) d q → Appending b at s start end d q (i + 1)
+    → WritesText c r (some (getD s i 0 ∷ [])) d q → Appending b at s start end d q (i + 1)
 append-more {start = start} {i = i} {s = s} w h v = record {
   after = omega (arith, w .after);
   before = omega arith;
@@ -121,5 +121,5 @@ append-more {start = start} {i = i} {s = s} w h v = record {
   written = rw (part-snoc s start i (w .after) (omega (arith, w .within))) (writes-both (w .written) v);
 }
 
-pub append-all : {b c : List ℕ} {at start end r i : ℕ} {s : List ℕ} → Appending b at s start end c r i → end ≤ i → Writes b at (some (between s start end)) c r
+pub append-all : {b c : List ℕ} {at start end r i : ℕ} {s : List ℕ} → Appending b at s start end c r i → end ≤ i → WritesText b at (some (between s start end)) c r
 append-all {end = end} {i = i} w h = let e : end ≡ i = omega (arith, w .before) in rw e (w .written)

@@ -15,20 +15,21 @@ use Rattle.label.specs.Ranges.{between}
 use Rattle.label.specs.Symbols.{known, unknown, symbol}
 use Rattle.label.specs.Symbols as spec
 use Rattle.label.specs.Units.{Name, unit-at}
-use Rattle.label.specs.Writing.{prefix-letters, same-prefix, same-symbol, reads-as, name-in, named-text, in-quotes, unknown-text, symbol-text, both-texts}
+use Rattle.label.specs.Letters.{prefix-letters}
+use Rattle.label.specs.Writing.{same-prefix, same-symbol, reads-as, name-in, named-text, in-quotes, unknown-text, symbol-text, both-texts}
 use Rattle.label.specs.Rows.{Style}
-use Rattle.symbols.specs.declared.Symbol.{Symbol}
+use Rattle.symbols.specs.declared.SymbolAt.{SymbolAt}
 use Rattle.symbols.specs.Columns.{name-keys}
 use Rattle.symbols.specs.Views.{place, symbol-in}
 use Rattle.label.proofs.Between.{length-between}
-use Rattle.rewriting.specs.declared.form.Form.{Form}
+use Rattle.rewriting.specs.declared.form.UnitForm.{UnitForm}
 use Rattle.rewriting.specs.declared.name.NameRange.{NameRange}
 use Rattle.rewriting.specs.declared.unit.SourceTerm.{SourceTerm}
-use Rattle.rewriting.specs.Texts.{room, Holds, Writes}
+use Rattle.rewriting.specs.Texts.{text-room, HoldsText, WritesText}
 use Rattle.rewriting.specs.Letters.{letters-of}
 use Rattle.rewriting.specs.Names.{name-at, names-in, NamesOf, OwnOf}
 use Rattle.rewriting.specs.Forms.{no-form, text-by, form-text, FormIn}
-use Rattle.rewriting.specs.Units.{PrefixCode, Lettered, Owns, plain-text, PlainOf}
+use Rattle.rewriting.specs.Units.{PrefixCode, LettersInside, Owns, plain-text, PlainOf}
 use Rattle.rewriting.proofs.TextLaws.{both-start}
 use Rattle.rewriting.proofs.LetterLaws.{letters-most}
 use Rattle.rewriting.proofs.NameTable.{name-letters}
@@ -47,7 +48,7 @@ other-place zero (suc b) h = refl
 other-place (suc a) zero h = refl
 other-place (suc a) (suc b) h = ne-eqb a b (λ e. h (ap suc e))
 
-module _ (s t : List ℕ) (x y : Symbol) where
+module _ (s t : List ℕ) (x y : SymbolAt) where
   abbrev alike : Bool
   alike = same-symbol (symbol-in s x) (symbol-in t y)
 
@@ -96,7 +97,7 @@ module _ (m u : ℕ) (p : Option ℕ) where
   named-some none t b e f = absurd (none-some e)
   named-some (some l) t b e f = let q : prefix-letters p ++ l ≡ t = cc in rw (q, f)
 
-module _ (y : Style) (m : ℕ) (own s : List ℕ) (x : Symbol) where
+module _ (y : Style) (m : ℕ) (own s : List ℕ) (x : SymbolAt) where
   abbrev unit : spec.Symbol
   unit = symbol-in s x
 
@@ -180,13 +181,13 @@ module _ (m : ℕ) (r : SourceTerm) {x : NameRange} (name : ℕ) (q : r .unit .k
   }
 
 -- what the array holds of a unit without quotes
-pub record Plain (b : List ℕ) (end : ℕ) (o : Option (List ℕ)) : Type 0 where
+pub record UnquotedText (b : List ℕ) (end : ℕ) (o : Option (List ℕ)) : Type 0 where
   pub text : List ℕ
   pub is : o ≡ some text
   pub held : between b 0 end ≡ text
   pub within : end ≤ length b
 
-module _ {m : ℕ} {s : List ℕ} {r : SourceTerm} {f : Form} (w : PlainOf m r f) (v : Lettered s (r .unit)) where
+module _ {m : ℕ} {s : List ℕ} {r : SourceTerm} {f : UnitForm} (w : PlainOf m r f) (v : LettersInside s (r .unit)) where
   pub plain-in : FormIn s f
   plain-in = go (r .unit .known) refl
     where
@@ -195,14 +196,14 @@ module _ {m : ℕ} {s : List ℕ} {r : SourceTerm} {f : Form} (w : PlainOf m r f
       go false q = let u = w .unknown q in record { forward = omega (arith, u .start, u .end, v .forward q); within = omega (arith, u .end, v .within q) }
 
   -- it is short enough for the array
-  plain-short : length s ≤ 255 → length (letters-of 2 (f .prefix) ++ (letters-of 8 (f .name) ++ between s (f .start) (f .end))) ≤ room
+  plain-short : length s ≤ 255 → length (letters-of 2 (f .prefix) ++ (letters-of 8 (f .name) ++ between s (f .start) (f .end))) ≤ text-room
   unfolding letters-of
   plain-short h = go (r .unit .known) refl
     where
       part : length (between s (f .start) (f .end)) ≡ f .end - f .start
       part = length-between s (f .start) (f .end) (plain-in .within)
 
-      go : (b : Bool) → r .unit .known ≡ b → length (letters-of 2 (f .prefix) ++ (letters-of 8 (f .name) ++ between s (f .start) (f .end))) ≤ room
+      go : (b : Bool) → r .unit .known ≡ b → length (letters-of 2 (f .prefix) ++ (letters-of 8 (f .name) ++ between s (f .start) (f .end))) ≤ text-room
       go true q =
           rw (length-append, length-append) (omega (arith, letters-most 2 (f .prefix), letters-most 8 (f .name), part, w .known q .0, w .known q .1))
       go false q = rw (length-append, length-append, w .unknown q .name) (omega (arith, letters-most 2 (f .prefix), part, plain-in .within))
@@ -212,13 +213,13 @@ module _ {m : ℕ} {s : List ℕ} {r : SourceTerm} {f : Form} (w : PlainOf m r f
   unfolding form-text text-by
   plain-some k = let e : f .kind ≡ 1 = omega (arith, w .kind) in rw e
 
-  pub plain-held : length s ≤ 255 → (f .kind ≡ 0 → ⊥) → {z b : List ℕ} {end : ℕ} → Writes z 0 (form-text s f) b end → Plain b end (form-text s f)
-  plain-held h k {b = b} {end = end} d = go (rw (both-start (form-text s f)) at (d .adds (some []) (Holds.short [] refl refl (omega arith) refl)))
+  pub plain-held : length s ≤ 255 → (f .kind ≡ 0 → ⊥) → {z b : List ℕ} {end : ℕ} → WritesText z 0 (form-text s f) b end → UnquotedText b end (form-text s f)
+  plain-held h k {b = b} {end = end} d = go (rw (both-start (form-text s f)) at (d .adds (some []) (HoldsText.short [] refl refl (omega arith) refl)))
     where
-      go : Holds b end (form-text s f) → Plain b end (form-text s f)
-      go (Holds.short t e n l g) = let u : end - 0 ≡ end = omega arith in record { text = t; is = e; held = rw u g; within = omega (arith, d .kept) }
-      go (Holds.long t e n l) = absurd (omega (arith, plain-short h, ap length (same-text (sym e ∙ plain-some k))))
-      go (Holds.nothing e l) = absurd (none-some (sym e ∙ plain-some k))
+      go : HoldsText b end (form-text s f) → UnquotedText b end (form-text s f)
+      go (HoldsText.short t e n l g) = let u : end - 0 ≡ end = omega arith in record { text = t; is = e; held = rw u g; within = omega (arith, d .kept) }
+      go (HoldsText.long t e n l) = absurd (omega (arith, plain-short h, ap length (same-text (sym e ∙ plain-some k))))
+      go (HoldsText.nothing e l) = absurd (none-some (sym e ∙ plain-some k))
 
   module _ (y : Style) (own : List ℕ) (o : Owns own r) where
     abbrev target-text : Option (List ℕ)
@@ -232,7 +233,7 @@ module _ {m : ℕ} {s : List ℕ} {r : SourceTerm} {f : Form} (w : PlainOf m r f
         e ∙ sym (no-plain y m own s (r .unit) (sym (w .text own o s) ∙ e))
 
     -- the target's reading of the unit without quotes is compared with the unit
-    module _ {b : List ℕ} {end : ℕ} (q : Plain b end (form-text s f)) (x : Symbol) (j : symbol-in b x ≡ symbol m (between b 0 end))
+    module _ {b : List ℕ} {end : ℕ} (q : UnquotedText b end (form-text s f)) (x : SymbolAt) (j : symbol-in b x ≡ symbol m (between b 0 end))
         {c : Bool} (i : c ≡ same-symbol (symbol-in b x) (symbol-in s (r .unit))) where
       compared : same-symbol (symbol m (q .text)) (symbol-in s (r .unit)) ≡ c
       compared = sym (i ∙ rw (j, q .held))

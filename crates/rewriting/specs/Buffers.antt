@@ -5,6 +5,6 @@ use Rattle.label.specs.Writing.{Rewriting}
 use Rattle.rewriting.specs.declared.rewrite.Rewritten.{Rewritten}
 
 -- the number and the length of an answer
-pub record Answers (x : Rewriting) (r : Rewritten) : Type 0 where
+pub record AnswerIs (x : Rewriting) (r : Rewritten) : Type 0 where
   pub number : r .number ≡ x .number
   pub length-is : r .length ≡ length (x .text)

@@ -7,10 +7,10 @@ use Rattle.label.specs.declared.Exponent.{Exponent}
 use Rattle.label.specs.Ranges.{between}
 use Rattle.label.specs.Writing.{in-quotes, exponent-text, both-texts}
 use Rattle.label.specs.Rows.{Style}
-use Rattle.rewriting.specs.declared.form.Form.{Form}
+use Rattle.rewriting.specs.declared.form.UnitForm.{UnitForm}
 use Rattle.rewriting.specs.Letters.{letters-of}
 
-abbrev pub no-form : Form
+abbrev pub no-form : UnitForm
 no-form = record { kind = 0; prefix = 0; name = 0; start = 0; end = 0 }
 
 -- a prefix and letters by the kind of a form: none, plainly, or in quotes
@@ -20,16 +20,16 @@ text-by (suc zero) p l = some (p ++ l)
 text-by (suc (suc k)) p l = some (p ++ in-quotes l)
 
 -- a unit of the label s in its form
-unfoldable pub form-text : List ℕ → Form → Option (List ℕ)
+unfoldable pub form-text : List ℕ → UnitForm → Option (List ℕ)
 form-text s f = text-by (f .kind) (letters-of 2 (f .prefix)) (letters-of 8 (f .name) ++ between s (f .start) (f .end))
 
 -- the letters lie in the label s
-pub record FormIn (s : List ℕ) (f : Form) : Type 0 where
+pub record FormIn (s : List ℕ) (f : UnitForm) : Type 0 where
   pub forward : f .start ≤ f .end
   pub within : f .end ≤ length s
 
 -- a unit in its form, and its exponent
-abbrev pub raised-text : Style → List ℕ → Form → Exponent → Option (List ℕ)
+abbrev pub raised-text : Style → List ℕ → UnitForm → Exponent → Option (List ℕ)
 raised-text y s f e = both-texts (form-text s f) (exponent-text y e)
 
 -- what joins term i to those before it

@@ -22,12 +22,12 @@ entry i = getD names i (record { letters = []; known-in = []; unit = 0 })
 abbrev pub is-named : ℕ → List ℕ → Name → Bool
 is-named n l x = same l (x .letters) && member n (x .known-in)
 
-abbrev pub name-of : Entry → Name
-name-of x = record { letters = x .letters; known-in = x .known-in }
+abbrev pub entry-name : Entry → Name
+entry-name x = record { letters = x .letters; known-in = x .known-in }
 
 -- a part of the table of names
 unfoldable pub names-in : NameRange → List Name
-names-in x = map name-of (take (x .end - x .first) (drop (x .first) names))
+names-in x = map entry-name (take (x .end - x .first) (drop (x .first) names))
 
 -- the letters of a name by its place, counted from 1; 0 is no name
 unfoldable pub name-at : ℕ → Option (List ℕ)

@@ -7,8 +7,8 @@ use lib.ListN.{length, take}
 use Rattle.label.specs.Writing.{both-texts}
 
 -- how many bytes the array has: a spelling of 255 letters with a prefix and quotes fits
-abbrev pub room : ℕ
-room = 260
+abbrev pub text-room : ℕ
+text-room = 260
 
 -- how far a text has come that is longer than the array, and one that has no form
 abbrev pub too-long : ℕ
@@ -18,12 +18,12 @@ abbrev pub formless : ℕ
 formless = 262
 
 -- the text o has come to the place at in the array b
-pub data Holds (b : List ℕ) (at : ℕ) (o : Option (List ℕ)) : Type 0 where
-  short : (s : List ℕ) → o ≡ some s → length s ≡ at → at ≤ room → take at b ≡ s → Holds b at o
-  long : (s : List ℕ) → o ≡ some s → room < length s → at ≡ too-long → Holds b at o
-  nothing : o ≡ none → at ≡ formless → Holds b at o
+pub data HoldsText (b : List ℕ) (at : ℕ) (o : Option (List ℕ)) : Type 0 where
+  short : (s : List ℕ) → o ≡ some s → length s ≡ at → at ≤ text-room → take at b ≡ s → HoldsText b at o
+  long : (s : List ℕ) → o ≡ some s → text-room < length s → at ≡ too-long → HoldsText b at o
+  nothing : o ≡ none → at ≡ formless → HoldsText b at o
 
 -- from the array b to c, and from the place at to r, the text o is written after what was there
-pub record Writes (b : List ℕ) (at : ℕ) (o : Option (List ℕ)) (c : List ℕ) (r : ℕ) : Type 0 where
-  pub kept : length c ≡ room
-  pub adds : (x : Option (List ℕ)) → Holds b at x → Holds c r (both-texts x o)
+pub record WritesText (b : List ℕ) (at : ℕ) (o : Option (List ℕ)) (c : List ℕ) (r : ℕ) : Type 0 where
+  pub kept : length c ≡ text-room
+  pub adds : (x : Option (List ℕ)) → HoldsText b at x → HoldsText c r (both-texts x o)

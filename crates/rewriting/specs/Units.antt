@@ -9,11 +9,12 @@ use Rattle.label.specs.Choice.{pick}
 use Rattle.label.specs.Ranges.{between}
 use Rattle.label.specs.Limits.{most-bytes, most-terms}
 use Rattle.label.specs.Units.{unit-at}
-use Rattle.label.specs.Writing.{prefix-letters, name-in, both-texts, own-letters}
-use Rattle.symbols.specs.declared.Symbol.{Symbol}
+use Rattle.label.specs.Letters.{prefix-letters}
+use Rattle.label.specs.Writing.{name-in, both-texts, own-letters}
+use Rattle.symbols.specs.declared.SymbolAt.{SymbolAt}
 use Rattle.symbols.specs.Views.{place, symbol-in}
 use Rattle.content.specs.Views.{symbol-at}
-use Rattle.rewriting.specs.declared.form.Form.{Form}
+use Rattle.rewriting.specs.declared.form.UnitForm.{UnitForm}
 use Rattle.rewriting.specs.declared.unit.SourceTerm.{SourceTerm}
 use Rattle.rewriting.specs.Letters.{letters-of}
 use Rattle.rewriting.specs.Names.{OwnOf}
@@ -26,7 +27,7 @@ pub record PrefixCode (prefix code : ℕ) : Type 0 where
   pub few : code / 65536 ≤ 2
 
 -- the letters of an unknown unit lie in the label s
-pub record Lettered (s : List ℕ) (x : Symbol) : Type 0 where
+pub record LettersInside (s : List ℕ) (x : SymbolAt) : Type 0 where
   pub forward : x .known ≡ false → x .start ≤ x .end
   pub within : x .known ≡ false → x .end ≤ length s
 
@@ -35,26 +36,26 @@ pub record Owns (own : List ℕ) (r : SourceTerm) : Type 0 where
   pub owns : r .unit .known ≡ true → OwnOf own (r .own)
 
 -- a unit of the label s without quotes in notation m: its prefix, and the name that it takes there, or the letters of an unknown unit
-unfoldable pub plain-text : ℕ → List ℕ → List ℕ → Symbol → Option (List ℕ)
+unfoldable pub plain-text : ℕ → List ℕ → List ℕ → SymbolAt → Option (List ℕ)
 plain-text m own s x =
     both-texts (some (prefix-letters (place (x .prefix)))) (pick (x .known) (name-in m own (unit-at (x .unit) .names)) (some (between s (x .start) (x .end))))
 
 -- f has the prefix and the letters of the unknown unit x
-pub record LetteredForm (x : Symbol) (f : Form) : Type 0 where
+pub record LetteredForm (x : SymbolAt) (f : UnitForm) : Type 0 where
   pub prefix : letters-of 2 (f .prefix) ≡ prefix-letters (place (x .prefix))
   pub name : f .name ≡ 0
   pub start : f .start ≡ x .start
   pub end : f .end ≡ x .end
 
 -- f is the form of a term's unit without quotes in notation m
-pub record PlainOf (m : ℕ) (r : SourceTerm) (f : Form) : Type 0 where
+pub record PlainOf (m : ℕ) (r : SourceTerm) (f : UnitForm) : Type 0 where
   pub text : (own : List ℕ) → Owns own r → (s : List ℕ) → form-text s f ≡ plain-text m own s (r .unit)
   pub kind : f .kind ≤ 1
   pub known : r .unit .known ≡ true → (f .start ≡ 0) × (f .end ≡ 0)
   pub unknown : r .unit .known ≡ false → LetteredForm (r .unit) f
 
 -- what the array x of names has of the spelling of term i
-pub record SymbolAt (x : List ℕ) (i : ℕ) (r : Symbol) : Type 0 where
+pub record SymbolFrom (x : List ℕ) (i : ℕ) (r : SymbolAt) : Type 0 where
   pub is : (s : List ℕ) → symbol-in s r ≡ symbol-at s x i
   pub unknown : r .known ≡ false → getD x (32 + i) 0 ≡ 0
   pub start : r .start ≡ getD x (64 + i) 0
@@ -81,5 +82,5 @@ own-at s p x i = own-letters (symbol-at s x i) (between s (getD p i 0) (getD p (
 -- r is term i of the label s
 pub record TermIs (s p x : List ℕ) (i : ℕ) (r : SourceTerm) : Type 0 where
   pub unit : symbol-in s (r .unit) ≡ symbol-at s x i
-  pub lettered : Lettered s (r .unit)
+  pub lettered : LettersInside s (r .unit)
   pub own : Owns (own-at s p x i) r

@@ -17,8 +17,8 @@ ghost use lib.IntN.{pos};
 ghost use lib.ListN.{length};
 ghost use Rattle.label.specs.Choice.{pick};
 ghost use Rattle.label.specs.Limits.{denominator-of};
-ghost use Rattle.label.specs.Writing.{figures, sign, whole-text, fraction-text, power-text, exponent-text};
-ghost use Rattle.rewriting.specs.Texts.{room, Writes};
+ghost use Rattle.label.specs.Writing.{figures, sign-text, whole-text, fraction-text, power-text, exponent-text};
+ghost use Rattle.rewriting.specs.Texts.{text-room, WritesText};
 ghost use Rattle.notations.specs.Styles.{style-in};
 
 // The denominator in lowest terms of so many sixtieths: the first divisor of 60 that makes a whole number of them.
@@ -64,8 +64,8 @@ fn denominator(sixtieths: u64) -> u64
 
 // Writes an integer of at most 4 digits. It has a plus nowhere.
 fn push_integer(text: &mut [u8; 260], at: usize, negative: bool, n: u64) -> usize
-    requires { ⌜ length (now text) ≡ room ⌝ }
-    ensures { λ r. ⌜ Writes (now (text .entry)) at (some (sign false negative ++ figures n)) (now (text .exit)) r ⌝ }
+    requires { ⌜ length (now text) ≡ text-room ⌝ }
+    ensures { λ r. ⌜ WritesText (now (text .entry)) at (some (sign-text false negative ++ figures n)) (now (text .exit)) r ⌝ }
 {
     let digits = push_sign(text, at, false, negative);
     push_figures(text, digits, 4, n)
@@ -83,8 +83,8 @@ fn is_wrapped(style: Style, negative: bool) -> bool
 
 // Writes a whole exponent.
 fn push_whole(text: &mut [u8; 260], at: usize, style: Style, negative: bool, n: u64) -> usize
-    requires { ⌜ length (now text) ≡ room ⌝ }
-    ensures { λ r. ⌜ Writes (now (text .entry)) at (some (whole-text (style-in style) negative n)) (now (text .exit)) r ⌝ }
+    requires { ⌜ length (now text) ≡ text-room ⌝ }
+    ensures { λ r. ⌜ WritesText (now (text .entry)) at (some (whole-text (style-in style) negative n)) (now (text .exit)) r ⌝ }
 {
     let first = push_stars(text, at, style.stars);
     if is_wrapped(style, negative) {
@@ -104,8 +104,8 @@ fn push_fraction(
     n: u64,
     d: u64,
 ) -> usize
-    requires { ⌜ length (now text) ≡ room ⌝ }
-    ensures { λ r. ⌜ Writes (now (text .entry)) at (some (fraction-text (style-in style) negative n d)) (now (text .exit)) r ⌝ }
+    requires { ⌜ length (now text) ≡ text-room ⌝ }
+    ensures { λ r. ⌜ WritesText (now (text .entry)) at (some (fraction-text (style-in style) negative n d)) (now (text .exit)) r ⌝ }
 {
     let first = push_stars(text, at, style.stars);
     let sign = push(text, first, b'(');
@@ -134,8 +134,8 @@ fn push_power(
     n: u64,
     d: u64,
 ) -> usize
-    requires { ⌜ length (now text) ≡ room ⌝ }
-    ensures { λ r. ⌜ Writes (now (text .entry)) at (power-text (style-in style) negative n d) (now (text .exit)) r ⌝ }
+    requires { ⌜ length (now text) ≡ text-room ⌝ }
+    ensures { λ r. ⌜ WritesText (now (text .entry)) at (power-text (style-in style) negative n d) (now (text .exit)) r ⌝ }
 {
     if d != 1 {
         if style.fractions {
@@ -151,8 +151,8 @@ fn push_power(
 
 // Writes an exponent.
 pub fn push_exponent(text: &mut [u8; 260], at: usize, style: Style, exponent: Exponent) -> usize
-    requires { ⌜ length (now text) ≡ room ⌝ }
-    ensures { λ r. ⌜ Writes (now (text .entry)) at (exponent-text (style-in style) exponent) (now (text .exit)) r ⌝ }
+    requires { ⌜ length (now text) ≡ text-room ⌝ }
+    ensures { λ r. ⌜ WritesText (now (text .entry)) at (exponent-text (style-in style) exponent) (now (text .exit)) r ⌝ }
 {
     let sixtieths = magnitude(exponent.0);
     let d = denominator(sixtieths);

@@ -13,13 +13,13 @@ ghost use lib.ListN.{length};
 ghost use Rattle.label.specs.Bytes.{bytes};
 ghost use Rattle.label.specs.Choice.{pick};
 ghost use Rattle.label.specs.Writing.{factor-text};
-ghost use Rattle.rewriting.specs.Texts.{room, Writes};
+ghost use Rattle.rewriting.specs.Texts.{text-room, WritesText};
 ghost use Rattle.notations.specs.Styles.{style-in};
 
 // Writes a space, or nothing.
 fn push_gap(text: &mut [u8; 260], at: usize, gap: bool) -> usize
-    requires { ⌜ length (now text) ≡ room ⌝ }
-    ensures { λ r. ⌜ Writes (now (text .entry)) at (some (pick gap (bytes " ") (bytes ""))) (now (text .exit)) r ⌝ }
+    requires { ⌜ length (now text) ≡ text-room ⌝ }
+    ensures { λ r. ⌜ WritesText (now (text .entry)) at (some (pick gap (bytes " ") (bytes ""))) (now (text .exit)) r ⌝ }
 {
     if gap {
         return push(text, at, b' ');
@@ -29,8 +29,8 @@ fn push_gap(text: &mut [u8; 260], at: usize, gap: bool) -> usize
 
 // Writes 10, and two stars where k follows them.
 fn push_ten(text: &mut [u8; 260], at: usize, stars: bool) -> usize
-    requires { ⌜ length (now text) ≡ room ⌝ }
-    ensures { λ r. ⌜ Writes (now (text .entry)) at (some (pick stars (bytes "10**") (bytes "10"))) (now (text .exit)) r ⌝ }
+    requires { ⌜ length (now text) ≡ text-room ⌝ }
+    ensures { λ r. ⌜ WritesText (now (text .entry)) at (some (pick stars (bytes "10**") (bytes "10"))) (now (text .exit)) r ⌝ }
 {
     let second = push(text, at, b'1');
     let third = push(text, second, b'0');
@@ -39,8 +39,8 @@ fn push_ten(text: &mut [u8; 260], at: usize, stars: bool) -> usize
 
 // Writes ten to the k, or nothing where k is 0.
 pub fn push_factor(text: &mut [u8; 260], at: usize, style: Style, k: Tens) -> usize
-    requires { ⌜ length (now text) ≡ room ⌝ }
-    ensures { λ r. ⌜ Writes (now (text .entry)) at (some (factor-text (style-in style) k)) (now (text .exit)) r ⌝ }
+    requires { ⌜ length (now text) ≡ text-room ⌝ }
+    ensures { λ r. ⌜ WritesText (now (text .entry)) at (some (factor-text (style-in style) k)) (now (text .exit)) r ⌝ }
 {
     let size = magnitude(k.0);
     if size == 0 {

@@ -7,7 +7,7 @@ ghost use mathlib.Core.List.{_++_};
 ghost use mathlib.Core.Option.{some};
 ghost use lib.ListN.{length};
 ghost use Rattle.label.specs.Ranges.{between};
-ghost use Rattle.rewriting.specs.Texts.{room, Writes};
+ghost use Rattle.rewriting.specs.Texts.{text-room, WritesText};
 ghost use Rattle.rewriting.specs.Letters.{letters-of};
 ghost use Rattle.rewriting.specs.Forms.{form-text, FormIn};
 
@@ -18,7 +18,7 @@ pub const PLAIN: u8 = 1;
 
 pub const QUOTED: u8 = 2;
 
-pub struct Form {
+pub struct UnitForm {
     pub kind: u8,
     // The keys of its prefix and its name, 0 for none.
     pub prefix: u64,
@@ -29,18 +29,18 @@ pub struct Form {
 }
 
 // Writes a name, or the letters of an unknown unit of the label `s`.
-fn push_letters(text: &mut [u8; 260], at: usize, s: &[u8], form: Form) -> usize
-    requires { ⌜ (length (now text) ≡ room) × FormIn (now s) form ⌝ }
-    ensures { λ r. ⌜ Writes (now (text .entry)) at (some (letters-of 8 (form .name) ++ between (now (s .entry)) (form .start) (form .end))) (now (text .exit)) r ⌝ }
+fn push_letters(text: &mut [u8; 260], at: usize, s: &[u8], form: UnitForm) -> usize
+    requires { ⌜ (length (now text) ≡ text-room) × FormIn (now s) form ⌝ }
+    ensures { λ r. ⌜ WritesText (now (text .entry)) at (some (letters-of 8 (form .name) ++ between (now (s .entry)) (form .start) (form .end))) (now (text .exit)) r ⌝ }
 {
     let rest = push_key(text, at, 8, form.name);
     append(text, rest, s, form.start, form.end)
 }
 
 // Writes a unit of the label `s` in that form.
-pub fn push_form(text: &mut [u8; 260], at: usize, s: &[u8], form: Form) -> usize
-    requires { ⌜ (length (now text) ≡ room) × FormIn (now s) form ⌝ }
-    ensures { λ r. ⌜ Writes (now (text .entry)) at (form-text (now (s .entry)) form) (now (text .exit)) r ⌝ }
+pub fn push_form(text: &mut [u8; 260], at: usize, s: &[u8], form: UnitForm) -> usize
+    requires { ⌜ (length (now text) ≡ text-room) × FormIn (now s) form ⌝ }
+    ensures { λ r. ⌜ WritesText (now (text .entry)) at (form-text (now (s .entry)) form) (now (text .exit)) r ⌝ }
 {
     if form.kind == NO_FORM {
         return 262;

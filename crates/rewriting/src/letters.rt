@@ -6,13 +6,13 @@ ghost use mathlib.Core.Option.{some};
 ghost use lib.ListN.{length};
 ghost use Rattle.label.specs.Bytes.{same};
 ghost use Rattle.label.specs.Ranges.{between};
-ghost use Rattle.rewriting.specs.Texts.{room, Writes};
+ghost use Rattle.rewriting.specs.Texts.{text-room, WritesText};
 ghost use Rattle.rewriting.specs.Letters.{letters-of};
 
 // Writes the letters of a key, `most` at most.
 pub fn push_key(text: &mut [u8; 260], at: usize, most: u8, key: u64) -> usize
-    requires { ⌜ length (now text) ≡ room ⌝ }
-    ensures { λ r. ⌜ Writes (now (text .entry)) at (some (letters-of most key)) (now (text .exit)) r ⌝ }
+    requires { ⌜ length (now text) ≡ text-room ⌝ }
+    ensures { λ r. ⌜ WritesText (now (text .entry)) at (some (letters-of most key)) (now (text .exit)) r ⌝ }
 {
     if most == 0 {
         return at;

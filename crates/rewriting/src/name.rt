@@ -14,7 +14,7 @@ ghost use Rattle.label.specs.Ranges.{between};
 ghost use Rattle.label.specs.Symbols.{has-name};
 ghost use Rattle.label.specs.Writing.{name-among, name-in};
 ghost use Rattle.symbols.specs.Columns.{name-count, unit-count, name-codes, NameColumns};
-ghost use Rattle.rewriting.specs.Names.{entry, name-of, is-named, names-in, name-at, first-places, InTable, NamesOf, OwnOf};
+ghost use Rattle.rewriting.specs.Names.{entry, entry-name, is-named, names-in, name-at, first-places, InTable, NamesOf, OwnOf};
 
 // Where the names of a unit start and end in the table of names.
 pub struct NameRange {
@@ -75,7 +75,7 @@ pub fn letters_in(s: &[u8], start: usize, end: usize) -> Own
 // Whether name `i` has those letters and notation `n` knows it.
 fn is_own(keys: &[u64], codes: &[u32], n: u8, i: usize, own: Own) -> bool
     requires { ⌜ NameColumns (now keys) (now codes) × (i < name-count) ⌝ }
-    ensures { λ r. ⌜ ((l : List ℕ) → OwnOf l own → r ≡ is-named n l (name-of (entry i))) ⌝ }
+    ensures { λ r. ⌜ ((l : List ℕ) → OwnOf l own → r ≡ is-named n l (entry-name (entry i))) ⌝ }
 {
     is_name(n, own.size, own.number, keys[i], codes[i])
 }

@@ -7,8 +7,8 @@ ghost use mathlib.Core.Option.{some};
 ghost use lib.IntN.{natAbs};
 ghost use lib.ListN.{length};
 ghost use Rattle.label.specs.Limits.{negative};
-ghost use Rattle.label.specs.Writing.{figures-before, sign};
-ghost use Rattle.rewriting.specs.Texts.{room, Writes};
+ghost use Rattle.label.specs.Writing.{figures-before, sign-text};
+ghost use Rattle.rewriting.specs.Texts.{text-room, WritesText};
 
 // A number without its sign.
 pub fn magnitude(z: i32) -> u64
@@ -29,8 +29,8 @@ pub fn is_negative(z: i32) -> bool
 
 // Writes the sign of a number; a plus only where it is asked for.
 pub fn push_sign(text: &mut [u8; 260], at: usize, plussed: bool, negative: bool) -> usize
-    requires { ⌜ length (now text) ≡ room ⌝ }
-    ensures { λ r. ⌜ Writes (now (text .entry)) at (some (sign plussed negative)) (now (text .exit)) r ⌝ }
+    requires { ⌜ length (now text) ≡ text-room ⌝ }
+    ensures { λ r. ⌜ WritesText (now (text .entry)) at (some (sign-text plussed negative)) (now (text .exit)) r ⌝ }
 {
     if negative {
         return push(text, at, b'-');
@@ -43,8 +43,8 @@ pub fn push_sign(text: &mut [u8; 260], at: usize, plussed: bool, negative: bool)
 
 // Writes the last `most` digits of a number, or all of them where it has fewer.
 pub fn push_figures(text: &mut [u8; 260], at: usize, most: u8, n: u64) -> usize
-    requires { ⌜ length (now text) ≡ room ⌝ }
-    ensures { λ r. ⌜ Writes (now (text .entry)) at (some (figures-before most n [])) (now (text .exit)) r ⌝ }
+    requires { ⌜ length (now text) ≡ text-room ⌝ }
+    ensures { λ r. ⌜ WritesText (now (text .entry)) at (some (figures-before most n [])) (now (text .exit)) r ⌝ }
 {
     if most == 0 {
         return at;

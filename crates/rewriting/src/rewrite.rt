@@ -10,9 +10,9 @@ ghost use mathlib.Core.Option.{Option};
 ghost use Prim.Native.Nat.{ℕ};
 ghost use lib.ListN.{length};
 ghost use Rattle.label.specs.Writing.{sized};
-ghost use Rattle.rewriting.specs.Texts.{room, Holds};
+ghost use Rattle.rewriting.specs.Texts.{text-room, HoldsText};
 ghost use Rattle.label.specs.Writing.{fitted, rewriting-into, buffer-with};
-ghost use Rattle.rewriting.specs.Buffers.{Answers};
+ghost use Rattle.rewriting.specs.Buffers.{AnswerIs};
 
 // The number of the refusal, or 0 and how many bytes the result has.
 #[repr(C)]
@@ -23,9 +23,9 @@ pub struct Rewritten {
 
 // Copies a result that was written into the lent buffer, where it has a form and is not too long for a label or the buffer.
 fn deliver(text: &[u8], end: usize, buffer: &mut [u8]) -> Rewritten
-    requires { ⌜ length (now text) ≡ room ⌝ }
-    ensures { λ r. ⌜ ((o : Option (List ℕ)) → Holds (now (text .entry)) end o → Answers (fitted (length (now (buffer .entry))) (sized o)) r) ⌝ }
-    ensures { λ _. ⌜ ((o : Option (List ℕ)) → Holds (now (text .entry)) end o
+    requires { ⌜ length (now text) ≡ text-room ⌝ }
+    ensures { λ r. ⌜ ((o : Option (List ℕ)) → HoldsText (now (text .entry)) end o → AnswerIs (fitted (length (now (buffer .entry))) (sized o)) r) ⌝ }
+    ensures { λ _. ⌜ ((o : Option (List ℕ)) → HoldsText (now (text .entry)) end o
         → now (buffer .exit) ≡ buffer-with (fitted (length (now (buffer .entry))) (sized o)) (now (buffer .entry))) ⌝ }
 {
     if end == 262 {
@@ -55,7 +55,7 @@ fn deliver(text: &[u8], end: usize, buffer: &mut [u8]) -> Rewritten
 
 // Rewrites the label `s` of notation `n` in notation `m`, for any numbers, bytes and buffer.
 pub fn rewrite(n: u32, s: &[u8], m: u32, buffer: &mut [u8]) -> Rewritten
-    ensures { λ r. ⌜ Answers (rewriting-into (length (now (buffer .entry))) n (now (s .entry)) m) r ⌝ }
+    ensures { λ r. ⌜ AnswerIs (rewriting-into (length (now (buffer .entry))) n (now (s .entry)) m) r ⌝ }
     ensures { λ _. ⌜ now (buffer .exit) ≡ buffer-with (rewriting-into (length (now (buffer .entry))) n (now (s .entry)) m) (now (buffer .entry)) ⌝ }
 {
     let mut places: [usize; 66] = [0; 66];

@@ -3,24 +3,24 @@ use crate::name::letters_in;
 use crate::unit::SourceTerm;
 use crate::unit::prefix_code;
 use content::named::number_at;
-use symbols::Symbol;
+use symbols::SymbolAt;
 ghost use Prim.Native.Nat.{_<_};
 ghost use mathlib.Core.Path.{_≡_};
 ghost use Rattle.label.specs.Limits.{most-terms};
 ghost use Rattle.symbols.specs.Columns.{prefix-codes};
-ghost use Rattle.rewriting.specs.Units.{SymbolAt, TermOf, TermIs};
+ghost use Rattle.rewriting.specs.Units.{SymbolFrom, TermOf, TermIs};
 
 // What the spelling of term `i` stands for.
-fn unit_at(names: &[u8; 128], i: usize) -> Symbol
+fn unit_at(names: &[u8; 128], i: usize) -> SymbolAt
     requires { ⌜ i < most-terms ⌝ }
-    ensures { λ r. ⌜ SymbolAt (now (names .entry)) i r ⌝ }
+    ensures { λ r. ⌜ SymbolFrom (now (names .entry)) i r ⌝ }
 {
     let prefix = number_at(names, i);
     let code = number_at(names, 32 + i);
     let start = number_at(names, 64 + i) as usize;
     let end = number_at(names, 96 + i) as usize;
     if code == 0 {
-        return Symbol {
+        return SymbolAt {
             known: false,
             prefix,
             unit: 0,
@@ -28,7 +28,7 @@ fn unit_at(names: &[u8; 128], i: usize) -> Symbol
             end,
         };
     }
-    Symbol {
+    SymbolAt {
         known: true,
         prefix,
         unit: code - 1,

@@ -8,12 +8,12 @@ ghost use lib.ListN.{length};
 ghost use Rattle.label.specs.Bytes.{bytes};
 ghost use Rattle.label.specs.Choice.{pick};
 ghost use Rattle.label.specs.Ranges.{between};
-ghost use Rattle.rewriting.specs.Texts.{room, Writes};
+ghost use Rattle.rewriting.specs.Texts.{text-room, WritesText};
 
 // Writes a byte.
 pub fn push(text: &mut [u8; 260], at: usize, byte: u8) -> usize
-    requires { ⌜ length (now text) ≡ room ⌝ }
-    ensures { λ r. ⌜ Writes (now (text .entry)) at (some (byte ∷ [])) (now (text .exit)) r ⌝ }
+    requires { ⌜ length (now text) ≡ text-room ⌝ }
+    ensures { λ r. ⌜ WritesText (now (text .entry)) at (some (byte ∷ [])) (now (text .exit)) r ⌝ }
 {
     if at < 260 {
         text[at] = byte;
@@ -27,9 +27,9 @@ pub fn push(text: &mut [u8; 260], at: usize, byte: u8) -> usize
 
 // Writes the bytes of `s` from `start` up to `end`.
 pub fn append(text: &mut [u8; 260], at: usize, s: &[u8], start: usize, end: usize) -> usize
-    requires { ⌜ length (now text) ≡ room ⌝ }
+    requires { ⌜ length (now text) ≡ text-room ⌝ }
     requires { ⌜ (start ≤ end) × (end ≤ length (now s)) ⌝ }
-    ensures { λ r. ⌜ Writes (now (text .entry)) at (some (between (now (s .entry)) start end)) (now (text .exit)) r ⌝ }
+    ensures { λ r. ⌜ WritesText (now (text .entry)) at (some (between (now (s .entry)) start end)) (now (text .exit)) r ⌝ }
 {
     let mut place = at;
     let mut i = start;
@@ -42,8 +42,8 @@ pub fn append(text: &mut [u8; 260], at: usize, s: &[u8], start: usize, end: usiz
 
 // Writes two stars, or nothing.
 pub fn push_stars(text: &mut [u8; 260], at: usize, stars: bool) -> usize
-    requires { ⌜ length (now text) ≡ room ⌝ }
-    ensures { λ r. ⌜ Writes (now (text .entry)) at (some (pick stars (bytes "**") (bytes ""))) (now (text .exit)) r ⌝ }
+    requires { ⌜ length (now text) ≡ text-room ⌝ }
+    ensures { λ r. ⌜ WritesText (now (text .entry)) at (some (pick stars (bytes "**") (bytes ""))) (now (text .exit)) r ⌝ }
 {
     if stars {
         let second = push(text, at, b'*');

@@ -1,8 +1,8 @@
 // The form that a unit takes in the target.
-use crate::form::Form;
 use crate::form::NO_FORM;
 use crate::form::PLAIN;
 use crate::form::QUOTED;
+use crate::form::UnitForm;
 use crate::form::push_form;
 use crate::letters::same_letters;
 use crate::name::Own;
@@ -10,7 +10,7 @@ use crate::name::name_in;
 use crate::name::names_of;
 use notations::rows::Style;
 use symbols::Span;
-use symbols::Symbol;
+use symbols::SymbolAt;
 use symbols::lookup::symbol;
 ghost use Prim.Native.Nat.{ℕ, _≤_};
 ghost use mathlib.Core.Path.{_≡_};
@@ -22,11 +22,11 @@ ghost use Rattle.symbols.specs.Columns.{prefix-codes, NameColumns};
 ghost use Rattle.symbols.specs.Views.{symbol-in};
 ghost use Rattle.notations.specs.Styles.{style-in};
 ghost use Rattle.rewriting.specs.Forms.{form-text, FormIn, no-form};
-ghost use Rattle.rewriting.specs.Units.{PrefixCode, Lettered, Owns, PlainOf};
+ghost use Rattle.rewriting.specs.Units.{PrefixCode, LettersInside, Owns, PlainOf};
 
 // A term of the source: its unit, and the letters of its name.
 pub struct SourceTerm {
-    pub unit: Symbol,
+    pub unit: SymbolAt,
     pub own: Own,
 }
 
@@ -46,8 +46,8 @@ pub fn prefix_code(prefixes: &[u32], prefix: u8) -> u32
 }
 
 // Whether two symbols are the same, the one of the label `s` and the other of `t`.
-fn is_same(s: &[u8], x: Symbol, t: &[u8], y: Symbol) -> bool
-    requires { ⌜ Lettered (now s) x × Lettered (now t) y ⌝ }
+fn is_same(s: &[u8], x: SymbolAt, t: &[u8], y: SymbolAt) -> bool
+    requires { ⌜ LettersInside (now s) x × LettersInside (now t) y ⌝ }
     ensures { λ r. ⌜ r ≡ same-symbol (symbol-in (now (s .entry)) x) (symbol-in (now (t .entry)) y) ⌝ }
 {
     if x.prefix != y.prefix {
@@ -66,10 +66,10 @@ fn is_same(s: &[u8], x: Symbol, t: &[u8], y: Symbol) -> bool
 }
 
 // No form.
-fn no_form() -> Form
+fn no_form() -> UnitForm
     ensures { λ r. ⌜ r ≡ no-form ⌝ }
 {
-    Form {
+    UnitForm {
         kind: NO_FORM,
         prefix: 0,
         name: 0,
@@ -79,14 +79,14 @@ fn no_form() -> Form
 }
 
 // The form of a unit without quotes in notation `m`: its prefix, and the name that it takes there or its letters.
-fn plain_form(keys: &[u64], codes: &[u32], prefixes: &[u32], m: u8, term: SourceTerm) -> Form
+fn plain_form(keys: &[u64], codes: &[u32], prefixes: &[u32], m: u8, term: SourceTerm) -> UnitForm
     requires { ⌜ NameColumns (now keys) (now codes) × (now prefixes ≡ prefix-codes) ⌝ }
     ensures { λ r. ⌜ PlainOf m term r ⌝ }
 {
     let unit = term.unit;
     let prefix = (prefix_code(prefixes, unit.prefix) % 65536) as u64;
     if !unit.known {
-        return Form {
+        return UnitForm {
             kind: PLAIN,
             prefix,
             name: 0,
@@ -98,7 +98,7 @@ fn plain_form(keys: &[u64], codes: &[u32], prefixes: &[u32], m: u8, term: Source
     if name == 0 {
         return no_form();
     }
-    Form {
+    UnitForm {
         kind: PLAIN,
         prefix,
         name: keys[name - 1],
@@ -115,9 +115,9 @@ pub fn form_of(
     style: Style,
     s: &[u8],
     term: SourceTerm,
-) -> Form
+) -> UnitForm
     requires { ⌜ NameColumns (now keys) (now codes) × (now prefixes ≡ prefix-codes) ⌝ }
-    requires { ⌜ Lettered (now s) (term .unit) × (length (now s) ≤ most-bytes) ⌝ }
+    requires { ⌜ LettersInside (now s) (term .unit) × (length (now s) ≤ most-bytes) ⌝ }
     ensures { λ r. ⌜ ((own : List ℕ) → Owns own term
         → form-text (now (s .entry)) r ≡ symbol-text (style-in style) (style .notation) own (symbol-in (now (s .entry)) (term .unit))) ⌝ }
     ensures { λ r. ⌜ FormIn (now (s .entry)) r ⌝ }
@@ -137,7 +137,7 @@ pub fn form_of(
         return no_form();
     }
     if style.quotes {
-        return Form {
+        return UnitForm {
             kind: QUOTED,
             prefix: form.prefix,
             name: form.name,

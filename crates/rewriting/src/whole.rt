@@ -1,7 +1,7 @@
 // A whole label as it is written.
 use crate::exponent::push_exponent;
 use crate::factor::push_factor;
-use crate::form::Form;
+use crate::form::UnitForm;
 use crate::form::push_form;
 use crate::source::term_at;
 use crate::text::push;
@@ -19,7 +19,7 @@ ghost use lib.ListN.{length};
 ghost use Rattle.label.specs.Writing.{writable, label-text};
 ghost use Rattle.descent.specs.Terms.{lent, count};
 ghost use Rattle.content.specs.Views.{terms-in};
-ghost use Rattle.rewriting.specs.Texts.{room, Holds, Writes};
+ghost use Rattle.rewriting.specs.Texts.{text-room, HoldsText, WritesText};
 ghost use Rattle.notations.specs.Styles.{style-in};
 ghost use Rattle.rewriting.specs.Forms.{FormIn, raised-text, joint-before};
 ghost use Rattle.rewriting.specs.Units.{AllTerms};
@@ -32,8 +32,8 @@ pub struct Target {
 
 // Writes what joins term `i` to those before it.
 fn push_joint(text: &mut [u8; 260], at: usize, style: Style, i: usize) -> usize
-    requires { ⌜ length (now text) ≡ room ⌝ }
-    ensures { λ r. ⌜ Writes (now (text .entry)) at (some (joint-before (style-in style) i)) (now (text .exit)) r ⌝ }
+    requires { ⌜ length (now text) ≡ text-room ⌝ }
+    ensures { λ r. ⌜ WritesText (now (text .entry)) at (some (joint-before (style-in style) i)) (now (text .exit)) r ⌝ }
 {
     if i == 0 {
         return at;
@@ -47,11 +47,11 @@ fn push_term(
     at: usize,
     style: Style,
     s: &[u8],
-    form: Form,
+    form: UnitForm,
     exponent: Exponent,
 ) -> usize
-    requires { ⌜ (length (now text) ≡ room) × FormIn (now s) form ⌝ }
-    ensures { λ r. ⌜ Writes (now (text .entry)) at (raised-text (style-in style) (now (s .entry)) form exponent) (now (text .exit)) r ⌝ }
+    requires { ⌜ (length (now text) ≡ text-room) × FormIn (now s) form ⌝ }
+    ensures { λ r. ⌜ WritesText (now (text .entry)) at (raised-text (style-in style) (now (s .entry)) form exponent) (now (text .exit)) r ⌝ }
 {
     let after = push_form(text, at, s, form);
     push_exponent(text, after, style, exponent)
@@ -66,11 +66,11 @@ pub fn push_label(
     exponents: &[i32; 32],
     names: &[u8; 128],
 ) -> usize
-    requires { ⌜ (length (now text) ≡ room) × AllTerms (now s) (now places) (now names) ⌝ }
-    ensures { λ r. ⌜ Holds (now (text .exit)) r (label-text (style-in (target .style)) (target .style .notation) (target .k)
+    requires { ⌜ (length (now text) ≡ text-room) × AllTerms (now s) (now places) (now names) ⌝ }
+    ensures { λ r. ⌜ HoldsText (now (text .exit)) r (label-text (style-in (target .style)) (target .style .notation) (target .k)
         (map (writable (now (s .entry))) (terms-in (now (s .entry)) (lent (now (places .entry)) (now (exponents .entry))) (now (names .entry))
         (count (lent (now (places .entry)) (now (exponents .entry))))))) ⌝ }
-    ensures { λ _. ⌜ length (now (text .exit)) ≡ room ⌝ }
+    ensures { λ _. ⌜ length (now (text .exit)) ≡ text-room ⌝ }
 {
     let count = places[64];
     if count == 0 {

@@ -15,16 +15,16 @@ use Rattle.label.specs.Ranges.{between}
 use Rattle.label.proofs.Basics.{false-true, and-left}
 use Rattle.symbols.specs.Views.{place}
 use Rattle.scan.specs.Runs.{Run}
-use Rattle.scan.specs.Spellings.{QuoteAt, Told, Quoted, Lettered, Spelled}
-use Rattle.scan.specs.declared.spelling.Spelling.{Spelling}
+use Rattle.scan.specs.Spellings.{QuoteAt, Told, ReadsQuoted, ReadsLettered, ReadsSpelling}
+use Rattle.scan.specs.declared.spelling.SpellingAt.{SpellingAt}
 use Rattle.label.proofs.Between.{here, beyond, between-none, between-join, between-cons, between-one, between-more}
 
 -- ANSWERS
 
-abbrev nothing-at : ℕ → Spelling
+abbrev nothing-at : ℕ → SpellingAt
 nothing-at a = record { ok = false; end = a }
 
-abbrev up-to : ℕ → Spelling
+abbrev up-to : ℕ → SpellingAt
 up-to e = record { ok = true; end = e }
 
 -- nothing is found
@@ -36,13 +36,13 @@ spelled : {x : Found (List ℕ)} {s : List ℕ} {a e : ℕ} → a < e → e ≤ 
 spelled h g e = record { is = e; ahead = λ f. h; back = λ f. absurd (false-true (sym f)); within = g }
 
 -- the same is found
-as-told : {x y : Found (List ℕ)} {s : List ℕ} {a : ℕ} {o : Spelling} → x ≡ y → Told y s a o → Told x s a o
+as-told : {x y : Found (List ℕ)} {s : List ℕ} {a : ℕ} {o : SpellingAt} → x ≡ y → Told y s a o → Told x s a o
 as-told e w = record { is = e ∙ w .is; ahead = w .ahead; back = w .back; within = w .within }
 
 -- LETTERS AND A CLOSING QUOTE
 
 module _ {s : List ℕ} {a q : ℕ} (w : QuoteAt s a q) {e : ℕ} (l : Run letter s (q + 1) e) where
-  pub quoted-empty : e ≡ q + 1 → Quoted s a q (nothing-at a)
+  pub quoted-empty : e ≡ q + 1 → ReadsQuoted s a q (nothing-at a)
   unfolding quoted quoted-on
   quoted-empty f = unspelled (omega (arith, w .forward, w .within)) (rw (← l .bytes, f, between-none s (q + 1)))
 
@@ -51,11 +51,11 @@ module _ {s : List ℕ} {a q : ℕ} (w : QuoteAt s a q) {e : ℕ} (l : Run lette
     unfolding quoted quoted-on
     quoted-then = rw (← l .bytes, ← l .rest, between-cons s (q + 1) e (omega (arith, l .from)) (l .within))
 
-    pub quoted-cut : length s ≤ e → Quoted s a q (nothing-at a)
+    pub quoted-cut : length s ≤ e → ReadsQuoted s a q (nothing-at a)
     unfolding byte
     quoted-cut h = unspelled (omega (arith, w .forward, w .within)) (quoted-then ∙ rw (beyond s e h))
 
-    pub quoted-open : e < length s → (getD s e 0 ≡ quote → ⊥) → Quoted s a q (nothing-at a)
+    pub quoted-open : e < length s → (getD s e 0 ≡ quote → ⊥) → ReadsQuoted s a q (nothing-at a)
     unfolding byte
     quoted-open h f = unspelled (omega (arith, w .forward, w .within)) (quoted-then ∙ rw (here s e h, ne-eqb _ _ f))
 
@@ -70,7 +70,7 @@ module _ {s : List ℕ} {a q : ℕ} (w : QuoteAt s a q) {e : ℕ} (l : Run lette
           w .is,
         )
 
-    pub quoted-closed : e < length s → getD s e 0 ≡ quote → Quoted s a q (up-to (e + 1))
+    pub quoted-closed : e < length s → getD s e 0 ≡ quote → ReadsQuoted s a q (up-to (e + 1))
     unfolding byte
     quoted-closed h f = spelled (omega (arith, w .forward, l .from)) (omega arith) (quoted-then ∙ rw (here s e h, f, quoted-bytes h f))
 
@@ -87,46 +87,46 @@ prefix-placed (suc i) l e = rw (lt-ltb 0 (suc i) (omega arith)) (ap is-some e)
 -- LETTERS, OR A QUOTED SPELLING THAT THEY BEGIN
 
 module _ (r : Rules) {s : List ℕ} {a e : ℕ} (h : a < e) where
-  pub lettered-end : e ≤ length s → length s ≤ e → Lettered r s a e (up-to e)
+  pub lettered-end : e ≤ length s → length s ≤ e → ReadsLettered r s a e (up-to e)
   unfolding lettered
   lettered-end g k = spelled h g (rw (beyond s e k))
 
   module _ (g : e < length s) where
-    pub lettered-plain : (eqb (getD s e 0) quote && r .quotes) ≡ false → Lettered r s a e (up-to e)
+    pub lettered-plain : (eqb (getD s e 0) quote && r .quotes) ≡ false → ReadsLettered r s a e (up-to e)
     unfolding lettered
     lettered-plain f = spelled h (omega arith) (rw (here s e g, f))
 
     module _ (f : (eqb (getD s e 0) quote && r .quotes) ≡ true) where
-      pub lettered-unnamed : prefix-name (between s a e) ≡ false → Lettered r s a e (nothing-at a)
+      pub lettered-unnamed : prefix-name (between s a e) ≡ false → ReadsLettered r s a e (nothing-at a)
       unfolding lettered
       lettered-unnamed n = unspelled (omega arith) (rw (here s e g, f, n))
 
-      pub lettered-named : {o : Spelling} → prefix-name (between s a e) ≡ true → Quoted s a e o → Lettered r s a e o
+      pub lettered-named : {o : SpellingAt} → prefix-name (between s a e) ≡ true → ReadsQuoted s a e o → ReadsLettered r s a e o
       unfolding lettered
       lettered-named n w = as-told (rw (here s e g, f, n)) w
 
 -- A SPELLING
 
 module _ (r : Rules) {s : List ℕ} {a : ℕ} where
-  pub spelling-end : a ≤ length s → length s ≤ a → Spelled r s a (nothing-at a)
+  pub spelling-end : a ≤ length s → length s ≤ a → ReadsSpelling r s a (nothing-at a)
   unfolding spelling
   spelling-end h g = unspelled h (rw (beyond s a g))
 
   module _ (h : a < length s) where
-    pub spelling-lettered : {e : ℕ} {o : Spelling} → letter (getD s a 0) ≡ true → Run letter s a e → Lettered r s a e o → Spelled r s a o
+    pub spelling-lettered : {e : ℕ} {o : SpellingAt} → letter (getD s a 0) ≡ true → Run letter s a e → ReadsLettered r s a e o → ReadsSpelling r s a o
     unfolding spelling
     spelling-lettered {e} {o} f l w = as-told (rw (l .bytes, l .rest, here s a h, f)) w
 
     module _ (n : letter (getD s a 0) ≡ false) where
-      pub spelling-percent : (eqb (getD s a 0) percent && r .percent) ≡ true → Spelled r s a (up-to (a + 1))
+      pub spelling-percent : (eqb (getD s a 0) percent && r .percent) ≡ true → ReadsSpelling r s a (up-to (a + 1))
       unfolding spelling
       spelling-percent f = spelled (omega arith) (omega arith) (rw (between-one s a h, here s a h, n, f))
 
       module _ (m : (eqb (getD s a 0) percent && r .percent) ≡ false) where
-        pub spelling-quoted : {o : Spelling} → (eqb (getD s a 0) quote && r .quotes) ≡ true → Quoted s a a o → Spelled r s a o
+        pub spelling-quoted : {o : SpellingAt} → (eqb (getD s a 0) quote && r .quotes) ≡ true → ReadsQuoted s a a o → ReadsSpelling r s a o
         unfolding spelling
         spelling-quoted f w = as-told (rw (between-none s a, here s a h, n, m, f)) w
 
-        pub spelling-none : (eqb (getD s a 0) quote && r .quotes) ≡ false → Spelled r s a (nothing-at a)
+        pub spelling-none : (eqb (getD s a 0) quote && r .quotes) ≡ false → ReadsSpelling r s a (nothing-at a)
         unfolding spelling
         spelling-none f = unspelled (omega arith) (rw (here s a h, n, m, f))

@@ -25,7 +25,7 @@ pub fn byte_at(s: &[u8], at: usize) -> u8
     0
 }
 
-pub fn between(c: u8, low: u8, high: u8) -> bool
+pub fn within(c: u8, low: u8, high: u8) -> bool
     ensures { λ r. ⌜ r ≡ within low high c ⌝ }
 {
     if c < low {
@@ -37,22 +37,22 @@ pub fn between(c: u8, low: u8, high: u8) -> bool
 pub fn is_letter(c: u8) -> bool
     ensures { λ r. ⌜ r ≡ letter c ⌝ }
 {
-    if between(c, b'A', b'Z') {
+    if within(c, b'A', b'Z') {
         return true;
     }
-    between(c, b'a', b'z')
+    within(c, b'a', b'z')
 }
 
 pub fn is_digit(c: u8) -> bool
     ensures { λ r. ⌜ r ≡ digit c ⌝ }
 {
-    between(c, b'0', b'9')
+    within(c, b'0', b'9')
 }
 
 pub fn is_nonzero(c: u8) -> bool
     ensures { λ r. ⌜ r ≡ nonzero c ⌝ }
 {
-    between(c, b'1', b'9')
+    within(c, b'1', b'9')
 }
 
 // A plus or a minus.

@@ -10,10 +10,10 @@ ghost use mathlib.Core.Path.{_≡_};
 ghost use lib.ListN.{length};
 ghost use Rattle.label.specs.Prefixes.{prefix-name};
 ghost use Rattle.label.specs.Ranges.{between};
-ghost use Rattle.scan.specs.Spellings.{QuoteAt, Quoted, Lettered, Spelled};
+ghost use Rattle.scan.specs.Spellings.{QuoteAt, ReadsQuoted, ReadsLettered, ReadsSpelling};
 
 // A spelling, by the place where it ends. Where there is none, `ok` is false and `end` is the place read from.
-pub struct Spelling {
+pub struct SpellingAt {
     pub ok: bool,
     pub end: usize,
 }
@@ -28,49 +28,49 @@ pub fn is_prefix_name(s: &[u8], start: usize, end: usize) -> bool
 }
 
 // Letters and a closing quote, after the quote at `at`. The spelling starts at `start`: a prefix may be there.
-pub fn quoted_from(s: &[u8], start: usize, at: usize) -> Spelling
+pub fn quoted_from(s: &[u8], start: usize, at: usize) -> SpellingAt
     requires { ⌜ QuoteAt (now s) start at ⌝ }
-    ensures { λ o. ⌜ Quoted (now (s .entry)) start at o ⌝ }
+    ensures { λ o. ⌜ ReadsQuoted (now (s .entry)) start at o ⌝ }
 {
     let first = at + 1;
     let end = letters(s, first);
     if end == first {
-        return Spelling {
+        return SpellingAt {
             ok: false,
             end: start,
         };
     }
     if s.len() <= end {
-        return Spelling {
+        return SpellingAt {
             ok: false,
             end: start,
         };
     }
     if s[end] != b'\'' {
-        return Spelling {
+        return SpellingAt {
             ok: false,
             end: start,
         };
     }
-    Spelling {
+    SpellingAt {
         ok: true,
         end: end + 1,
     }
 }
 
 // The letters from `start` up to `end`, or a quoted spelling that they begin.
-pub fn lettered_from(r: Rules, s: &[u8], start: usize, end: usize) -> Spelling
+pub fn lettered_from(r: Rules, s: &[u8], start: usize, end: usize) -> SpellingAt
     requires { ⌜ (start < end) × (end ≤ length (now s)) ⌝ }
-    ensures { λ o. ⌜ Lettered r (now (s .entry)) start end o ⌝ }
+    ensures { λ o. ⌜ ReadsLettered r (now (s .entry)) start end o ⌝ }
 {
     if s.len() <= end {
-        return Spelling { ok: true, end };
+        return SpellingAt { ok: true, end };
     }
     if !both(s[end] == b'\'', r.quotes) {
-        return Spelling { ok: true, end };
+        return SpellingAt { ok: true, end };
     }
     if !is_prefix_name(s, start, end) {
-        return Spelling {
+        return SpellingAt {
             ok: false,
             end: start,
         };
@@ -79,12 +79,12 @@ pub fn lettered_from(r: Rules, s: &[u8], start: usize, end: usize) -> Spelling
 }
 
 // The spelling that starts at `at`.
-pub fn spelling_at(r: Rules, s: &[u8], at: usize) -> Spelling
+pub fn spelling_at(r: Rules, s: &[u8], at: usize) -> SpellingAt
     requires { ⌜ at ≤ length (now s) ⌝ }
-    ensures { λ o. ⌜ Spelled r (now (s .entry)) at o ⌝ }
+    ensures { λ o. ⌜ ReadsSpelling r (now (s .entry)) at o ⌝ }
 {
     if s.len() <= at {
-        return Spelling { ok: false, end: at };
+        return SpellingAt { ok: false, end: at };
     }
     let c = s[at];
     if is_letter(c) {
@@ -92,7 +92,7 @@ pub fn spelling_at(r: Rules, s: &[u8], at: usize) -> Spelling
         return lettered_from(r, s, at, end);
     }
     if both(c == b'%', r.percent) {
-        return Spelling {
+        return SpellingAt {
             ok: true,
             end: at + 1,
         };
@@ -100,5 +100,5 @@ pub fn spelling_at(r: Rules, s: &[u8], at: usize) -> Spelling
     if both(c == b'\'', r.quotes) {
         return quoted_from(s, at, at);
     }
-    Spelling { ok: false, end: at }
+    SpellingAt { ok: false, end: at }
 }

@@ -123,18 +123,18 @@ agrees-same l t b k = go (agrees (length l) (key-of l) (length t) (key-of t)) re
     go false e false f = refl
 
 -- the spelling l is of bytes, and has that size and key
-pub record Spelled (l : List ℕ) (size number : ℕ) : Type 0 where
+pub record SpellingKey (l : List ℕ) (size number : ℕ) : Type 0 where
   pub bytes : Bytes l
   pub size-is : size ≡ length l
   pub number-is : number ≡ key-of l
 
-pub agrees-spelled : {l : List ℕ} {size number : ℕ} → Spelled l size number → (t : List ℕ) → T (keyable t)
+pub agrees-spelled : {l : List ℕ} {size number : ℕ} → SpellingKey l size number → (t : List ℕ) → T (keyable t)
     → agrees size number (length t) (key-of t) ≡ same l t
 agrees-spelled {l} w t k = rw (w .size-is, w .number-is) (agrees-same l t (w .bytes) k)
 
 -- a part of a slice that is short enough for a key
 pub spelled-part : (s : List ℕ) (start end : ℕ) → start ≤ end → end ≤ length s → ((i : ℕ) → Fits w8 (getD s i 0)) → (number : ℕ)
-    → number ≡ key-of (between s start end) → Spelled (between s start end) (end - start) number
+    → number ≡ key-of (between s start end) → SpellingKey (between s start end) (end - start) number
 spelled-part s start end h g f number e = record {
   bytes = fits-between s start end f;
   size-is = sym (length-between s start end g);

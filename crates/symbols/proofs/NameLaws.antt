@@ -23,7 +23,7 @@ use Rattle.symbols.specs.Columns.{name-count, name-keys, name-code, name
 use Rattle.symbols.specs.Views.{place}
 use Rattle.symbols.proofs.Computing.{columns-compute}
 use Rattle.symbols.proofs.GroupLaws.{start, start-upto, before-start}
-use Rattle.symbols.proofs.KeyLaws.{keyable, long-other, Spelled, agrees-spelled}
+use Rattle.symbols.proofs.KeyLaws.{keyable, long-other, SpellingKey, agrees-spelled}
 use Rattle.symbols.proofs.SetLaws.{alike, told-by-bits, bit-member}
 use Rattle.symbols.proofs.RowLaws.{every, every-at, first, first-none, Sought, sought-none, sought-all, sought-hit, sought-miss}
 
@@ -164,20 +164,20 @@ too-long n l h = sym (first-none (is-entry n l) sound row 0 names names-sound ot
     other x t = rw (long-other l (x .letters) h (both (keyable (x .letters)) _ t .0))
 
 -- the columns are lent, the spelling l has that size and key, and no name before place i is l
-pub record Searching (ks cs : List ℕ) (n : ℕ) (l : List ℕ) (size number i : ℕ) : Type 0 where
+pub record SearchingNames (ks cs : List ℕ) (n : ℕ) (l : List ℕ) (size number i : ℕ) : Type 0 where
   pub columns : NameColumns ks cs
-  pub spelled : Spelled l size number
+  pub spelled : SpellingKey l size number
   pub sought : Sought (is-entry n l) row names (unit-named n l) i
 
 module _ {ks cs : List ℕ} {n : ℕ} {l : List ℕ} {size number : ℕ} where
-  pub search-none : NameColumns ks cs → Spelled l size number → Searching ks cs n l size number 0
+  pub search-none : NameColumns ks cs → SpellingKey l size number → SearchingNames ks cs n l size number 0
   search-none w v = record { columns = w; spelled = v; sought = sought-none (first-named n l) }
 
-  pub search-all : {i : ℕ} → name-count ≤ i → Searching ks cs n l size number i → place 0 ≡ unit-named n l
+  pub search-all : {i : ℕ} → name-count ≤ i → SearchingNames ks cs n l size number i → place 0 ≡ unit-named n l
   unfolding place
   search-all h w = sought-all (omega (arith, names-count)) (w .sought)
 
-  module _ {i : ℕ} (h : i < name-count) (w : Searching ks cs n l size number i) {r : Bool}
+  module _ {i : ℕ} (h : i < name-count) (w : SearchingNames ks cs n l size number i) {r : Bool}
       (e : r ≡ (agrees size number (getD cs i 0 / 65536) (getD ks i 0) && has-bit n (getD cs i 0 / 256 % 256))) where
     told : is-entry n l (entry i) ≡ r
     unfolding is-entry
@@ -197,7 +197,7 @@ module _ {ks cs : List ℕ} {n : ℕ} {l : List ℕ} {size number : ℕ} where
     search-hit t =
         rw (w .columns .codes-are, code-at i, code-sound i .1 .1, add-one) (sought-hit nobody (omega (arith, names-count)) (w .sought) (told ∙ t))
 
-    pub search-miss : r ≡ false → Searching ks cs n l size number (i + 1)
+    pub search-miss : r ≡ false → SearchingNames ks cs n l size number (i + 1)
     unfolding entry
     search-miss t = record {
       columns = w .columns;
@@ -206,13 +206,13 @@ module _ {ks cs : List ℕ} {n : ℕ} {l : List ℕ} {size number : ℕ} where
     }
 
   -- a search can start at the first name of the spelling's group
-  pub search-start : NameColumns ks cs → Spelled l size number → Searching ks cs n l size number (start (number % groups))
+  pub search-start : NameColumns ks cs → SpellingKey l size number → SearchingNames ks cs n l size number (start (number % groups))
   search-start w v = go (start (number % groups)) (omega arith)
     where
       other : (i : ℕ) → i < start (number % groups) → false ≡ (agrees size number (getD cs i 0 / 65536) (getD ks i 0) && has-bit n (getD cs i 0 / 256 % 256))
       other i h = rw (w .keys-are, before-start number i h)
 
-      go : (i : ℕ) → i ≤ start (number % groups) → Searching ks cs n l size number i
+      go : (i : ℕ) → i ≤ start (number % groups) → SearchingNames ks cs n l size number i
       go zero h = search-none w v
       go (suc i) h =
           rw (add-one i) at (search-miss {i = i} (omega (arith, h, start-upto (number % groups))) (go i (omega (arith, h))) (other i (omega (arith, h))) refl)

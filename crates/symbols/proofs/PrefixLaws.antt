@@ -16,7 +16,7 @@ use Rattle.symbols.specs.Keys.{most-letters, key-from, key-of, agrees}
 use Rattle.symbols.specs.Columns.{prefix-count, prefix-code, prefix-codes}
 use Rattle.symbols.specs.Views.{place}
 use Rattle.symbols.proofs.Computing.{columns-compute}
-use Rattle.symbols.proofs.KeyLaws.{keyable, long-other, Spelled, agrees-spelled}
+use Rattle.symbols.proofs.KeyLaws.{keyable, long-other, SpellingKey, agrees-spelled}
 use Rattle.symbols.proofs.RowLaws.{every, every-at, first, first-none, at-place, Sought, sought-none, sought-all, sought-hit, sought-miss}
 
 -- THE COLUMNS
@@ -96,20 +96,20 @@ too-long l h =
     sym (first-none (is-prefix l) has-key at-place 0 prefixes prefixes-keyed (λ p t. long-other l (p .name) h (both (keyable (p .name)) _ t .0))) ∙ first-named l
 
 -- the column is lent, the spelling l has that size and key, and no prefix before place i is l
-pub record Searching (cs l : List ℕ) (size number i : ℕ) : Type 0 where
+pub record SearchingPrefixes (cs l : List ℕ) (size number i : ℕ) : Type 0 where
   pub column : cs ≡ prefix-codes
-  pub spelled : Spelled l size number
+  pub spelled : SpellingKey l size number
   pub sought : Sought (is-prefix l) at-place prefixes (prefix-named l) i
 
 module _ {cs l : List ℕ} {size number : ℕ} where
-  pub search-none : cs ≡ prefix-codes → Spelled l size number → Searching cs l size number 0
+  pub search-none : cs ≡ prefix-codes → SpellingKey l size number → SearchingPrefixes cs l size number 0
   search-none w v = record { column = w; spelled = v; sought = sought-none (first-named l) }
 
-  pub search-all : {i : ℕ} → prefix-count ≤ i → Searching cs l size number i → place 0 ≡ prefix-named l
+  pub search-all : {i : ℕ} → prefix-count ≤ i → SearchingPrefixes cs l size number i → place 0 ≡ prefix-named l
   unfolding place
   search-all h w = sought-all (omega (arith, prefixes-count)) (w .sought)
 
-  module _ {i : ℕ} (h : i < prefix-count) (w : Searching cs l size number i) {r : Bool}
+  module _ {i : ℕ} (h : i < prefix-count) (w : SearchingPrefixes cs l size number i) {r : Bool}
       (e : r ≡ agrees size number (getD cs i 0 / 65536) (getD cs i 0 % 65536)) where
     told : is-prefix l (entry i) ≡ r
     unfolding is-prefix
@@ -121,7 +121,7 @@ module _ {cs l : List ℕ} {size number : ℕ} where
     unfolding place entry
     search-hit t = rw (add-one i) (sought-hit nothing (omega (arith, prefixes-count)) (w .sought) (told ∙ t))
 
-    pub search-miss : r ≡ false → Searching cs l size number (i + 1)
+    pub search-miss : r ≡ false → SearchingPrefixes cs l size number (i + 1)
     unfolding entry
     search-miss t = record {
       column = w .column;

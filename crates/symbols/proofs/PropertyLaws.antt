@@ -15,7 +15,7 @@ use Rattle.label.specs.Ranges.{between}
 use Rattle.label.specs.Reading.{is-lawful, is-recommended, prime-in}
 use Rattle.label.specs.Symbols.{known, unknown}
 use Rattle.label.specs.Units.{in-tens}
-use Rattle.symbols.specs.declared.Symbol.{Symbol}
+use Rattle.symbols.specs.declared.SymbolAt.{SymbolAt}
 use Rattle.symbols.specs.Sets.{has-bit}
 use Rattle.symbols.specs.Slots.{prime-at}
 use Rattle.symbols.specs.Columns.{unit-prefixed, unit-recommended, unit-bases, unit-powers, unit-primes}
@@ -23,7 +23,7 @@ use Rattle.symbols.specs.Views.{place, symbol-in, slot-in}
 use Rattle.symbols.proofs.SymbolLaws.{placed-at}
 use Rattle.symbols.proofs.UnitLaws.{prefixed-at, recommended-at, base-at, power-at, primes-at, in-tens-small, primes-small, prime-small, small-fits, held}
 
-module _ (x : Symbol) where
+module _ (x : SymbolAt) where
   module _ (e : x .known ≡ false) (s : List ℕ) where
     is-unknown : symbol-in s x ≡ unknown (place (x .prefix)) (between s (x .start) (x .end))
     unfolding symbol-in
@@ -81,7 +81,7 @@ module _ (x : Symbol) where
       prime-known = rw (is-known, primes-at (x .unit) k h)
 
 -- the sum of what a prefix and a unit add to a prime, as the code computes it
-module _ (x : Symbol) (e : x .known ≡ true) (k : ℕ) (h : k < 4) {ps : List ℤ} (q : ps ≡ unit-primes) {a b : ℤ}
+module _ (x : SymbolAt) (e : x .known ≡ true) (k : ℕ) (h : k < 4) {ps : List ℤ} (q : ps ≡ unit-primes) {a b : ℤ}
     (f : a ≡ in-tens (prime-at k) (power-of (place (x .prefix)))) (g : b ≡ getD ps (x .unit * 4 + k) (pos 0)) where
   summed : (s : List ℕ) → toZ w32 (ofZ w32 a) +ℤ toZ w32 (ofZ w32 b) ≡ prime-in (prime-at k) (symbol-in s x)
   summed s =

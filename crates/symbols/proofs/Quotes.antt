@@ -14,18 +14,18 @@ use Rattle.symbols.specs.Views.{FirstQuote}
 use Rattle.label.proofs.Between.{between-none, between-cons, between-join}
 
 -- no quote is from start up to i
-pub record Passed (s : List ℕ) (start end i : ℕ) : Type 0 where
+pub record UnquotedBefore (s : List ℕ) (start end i : ℕ) : Type 0 where
   pub from : start ≤ i
   pub upto : i ≤ end
   pub before : between s start i ++ run unquoted (between s i end) ≡ run unquoted (between s start end)
   pub after : past unquoted (between s i end) ≡ past unquoted (between s start end)
 
-pub passed-none : (s : List ℕ) (start end : ℕ) → start ≤ end → Passed s start end start
+pub passed-none : (s : List ℕ) (start end : ℕ) → start ≤ end → UnquotedBefore s start end start
 passed-none s start end h = record { from = omega arith; upto = h; before = rw (between-none s start); after = refl }
 
-module _ {s : List ℕ} {start end i : ℕ} (l : end ≤ length s) (w : Passed s start end i) where
+module _ {s : List ℕ} {start end i : ℕ} (l : end ≤ length s) (w : UnquotedBefore s start end i) where
   module _ (h : i < end) where
-    pub passed-more : (getD s i 0 ≡ quote → ⊥) → Passed s start end (i + 1)
+    pub passed-more : (getD s i 0 ≡ quote → ⊥) → UnquotedBefore s start end (i + 1)
     unfolding run past
     passed-more n =
         let e : eqb (getD s i 0) quote ≡ false = ne-eqb (getD s i 0) quote n in

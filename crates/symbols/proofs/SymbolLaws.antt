@@ -14,9 +14,9 @@ use Rattle.label.specs.Symbols.{longer, longest, by-longest, by-cut, by-whole, 
 use Rattle.label.specs.Bytes.{run}
 use Rattle.label.specs.Prefixes.{prefix-named}
 use Rattle.label.specs.Ranges.{between}
-use Rattle.symbols.specs.declared.Cut.{Cut as Cutting}
-use Rattle.symbols.specs.declared.Symbol.{Symbol as Coded}
-use Rattle.symbols.specs.Views.{place, symbol-in, after-prefix, prefix-cut, unit-cut, Bounded, LettersAt, CutAt, FirstPrefixed, FirstQuote}
+use Rattle.symbols.specs.declared.PrefixCut.{PrefixCut}
+use Rattle.symbols.specs.declared.SymbolAt.{SymbolAt}
+use Rattle.symbols.specs.Views.{place, symbol-in, after-prefix, prefix-cut, unit-cut, BoundedSymbol, LettersAt, CutAt, FirstPrefixed, FirstQuote}
 use Rattle.symbols.proofs.CutLaws.{cut-list, two-then-one}
 use Rattle.label.proofs.Between.{between-none, between-cons, length-between, take-between, drop-between}
 
@@ -39,7 +39,7 @@ placed-at r h =
     go k e = rw e
 
 -- letters in a part are in the whole
-pub wider : {a b y z : ℕ} {x : Coded} → Bounded b y x → a ≤ b → y ≤ z → Bounded a z x
+pub wider : {a b y z : ℕ} {x : SymbolAt} → BoundedSymbol b y x → a ≤ b → y ≤ z → BoundedSymbol a z x
 wider w h g = record { row = w .row; from = λ e. omega (arith, w .from e); forward = w .forward; upto = omega (arith, w .upto); none = w .none }
 
 -- what a spelling stands for whose whole is unknown: prefixes p, q and units u, v after two letters and after one
@@ -128,7 +128,7 @@ pub with-prefix : (p : ℕ) → (p ≡ 0 → ⊥) → (o : Option ℕ) → o ≡
 with-prefix p z o = rw (placed-at p (omega arith))
 
 -- the unit after a cut, of which u is one more than the row
-unit-after-cut : (n : ℕ) {k : ℕ} {s : List ℕ} {start end : ℕ} {r : Cutting} → CutAt k s start end r → (u : ℕ)
+unit-after-cut : (n : ℕ) {k : ℕ} {s : List ℕ} {start end : ℕ} {r : PrefixCut} → CutAt k s start end r → (u : ℕ)
     → place u ≡ after-prefix (place (r .prefix)) (unit-named n (between s (r .rest) end)) → place u ≡ unit-cut n k (between s start end)
 unfolding unit-cut
 unit-after-cut n {k} {s} {start} {end} {r} w u e = e ∙ go (leb (r .prefix) 0) refl
@@ -140,13 +140,13 @@ unit-after-cut n {k} {s} {start} {end} {r} w u e = e ∙ go (leb (r .prefix) 0) 
 
 -- THE CHOICE
 
-module _ (n : ℕ) {s : List ℕ} {start end : ℕ} {two : Cutting} (a : CutAt 2 s start end two) (u : ℕ)
+module _ (n : ℕ) {s : List ℕ} {start end : ℕ} {two : PrefixCut} (a : CutAt 2 s start end two) (u : ℕ)
     (d : place u ≡ after-prefix (place (two .prefix)) (unit-named n (between s (two .rest) end))) where
   pub first-known : 0 < u → known (place (two .prefix)) (u - 1) ≡ by-cut (between s start end) (known-cuts n (between s start end))
   unfolding chosen
   first-known h = sym (by-cut-is n (between s start end) ∙ rw (← a .prefix-is, ← unit-after-cut n a u d, placed-at u h))
 
-  module _ (z : u ≤ 0) {one : Cutting} (b : CutAt 1 s start end one) (v : ℕ)
+  module _ (z : u ≤ 0) {one : PrefixCut} (b : CutAt 1 s start end one) (v : ℕ)
       (e : place v ≡ after-prefix (place (one .prefix)) (unit-named n (between s (one .rest) end))) where
     chosen-is : by-cut (between s start end) (known-cuts n (between s start end))
         ≡ chosen (between s start end) (place (two .prefix)) none (place (one .prefix)) (place v)
@@ -176,7 +176,7 @@ module _ (n : ℕ) {s : List ℕ} {start end : ℕ} {two : Cutting} (a : CutAt 2
       neither x w = sym (chosen-is ∙ rw (placed-none v y, placed-none (two .prefix) x, placed-none (one .prefix) w, b .whole w))
 
       -- the unknown symbol with the first prefix that there is
-      pub unknown-by-cut : {r : Coded} → FirstPrefixed two one end r
+      pub unknown-by-cut : {r : SymbolAt} → FirstPrefixed two one end r
           → symbol-in s r ≡ by-cut (between s start end) (known-cuts n (between s start end))
       unknown-by-cut {r} w = go (leb (two .prefix) 0) refl (leb (one .prefix) 0) refl
         where

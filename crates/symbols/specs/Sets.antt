@@ -12,9 +12,9 @@ bits [] = 0
 bits (n ∷ ns) = 2 ^ (n - 1) + bits ns
 
 -- a set is a byte, so it has room for the notations 1 to 8
-abbrev pub room : ℕ
-room = 8
+abbrev pub most-notations : ℕ
+most-notations = 8
 
 -- n is from 1 to 8, and its bit is set in b
 abbrev pub has-bit : ℕ → ℕ → Bool
-has-bit n b = within 1 room n && eqb (b / 2 ^ (n - 1) % 2) 1
+has-bit n b = within 1 most-notations n && eqb (b / 2 ^ (n - 1) % 2) 1

@@ -12,8 +12,8 @@ use Rattle.label.specs.Prefixes.{prefix-named}
 use Rattle.label.specs.Symbols.{known, unknown, unit-named, unquoted}
 use Rattle.label.specs.Symbols as spec
 use Rattle.label.specs.Units.{BasePower, unit-at}
-use Rattle.symbols.specs.declared.Symbol.{Symbol}
-use Rattle.symbols.specs.declared.Cut.{Cut}
+use Rattle.symbols.specs.declared.SymbolAt.{SymbolAt}
+use Rattle.symbols.specs.declared.PrefixCut.{PrefixCut}
 use Rattle.symbols.specs.Slots.{unused, slot}
 
 -- a place in a table: 0 is none, and any other number is one more than the place
@@ -22,12 +22,12 @@ place zero = none
 place (suc i) = some i
 
 -- a symbol of the label s
-unfoldable pub symbol-in : List ℕ → Symbol → spec.Symbol
+unfoldable pub symbol-in : List ℕ → SymbolAt → spec.Symbol
 symbol-in s x =
     pick (x .known) (known (place (x .prefix)) (x .unit)) (unknown (place (x .prefix)) (between s (x .start) (x .end)))
 
 -- the letters of an unknown unit are between start and end, and a known unit has none; and one more than a unit's row fits a byte
-pub record Bounded (start end : ℕ) (x : Symbol) : Type 0 where
+pub record BoundedSymbol (start end : ℕ) (x : SymbolAt) : Type 0 where
   pub row : x .unit < 255
   pub from : x .known ≡ false → start ≤ x .start
   pub forward : x .start ≤ x .end
@@ -35,7 +35,7 @@ pub record Bounded (start end : ℕ) (x : Symbol) : Type 0 where
   pub none : x .known ≡ true → (x .start ≡ 0) × (x .end ≡ 0)
 
 -- the letters of an unknown unit, if it is one, go up to the end
-pub record UpTo (end : ℕ) (x : Symbol) : Type 0 where
+pub record UpTo (end : ℕ) (x : SymbolAt) : Type 0 where
   pub last : x .known ≡ false → x .end ≡ end
 
 -- the first quote of s from start up to end is at r, or r is the end
@@ -72,7 +72,7 @@ unfoldable pub unit-cut : ℕ → ℕ → List ℕ → Option ℕ
 unit-cut n k l = after-prefix (prefix-cut k l) (unit-named n (drop k l))
 
 -- the bytes of s from start up to end, cut after their first k letters
-pub record CutAt (k : ℕ) (s : List ℕ) (start end : ℕ) (r : Cut) : Type 0 where
+pub record CutAt (k : ℕ) (s : List ℕ) (start end : ℕ) (r : PrefixCut) : Type 0 where
   pub prefix-is : place (r .prefix) ≡ prefix-cut k (between s start end)
   pub after : 0 < r .prefix → r .rest ≡ start + k
   pub whole : r .prefix ≤ 0 → r .rest ≡ start
@@ -80,10 +80,10 @@ pub record CutAt (k : ℕ) (s : List ℕ) (start end : ℕ) (r : Cut) : Type 0 w
   pub upto : r .rest ≤ end
 
 -- r is unknown, with the prefix and the letters of the first of two cuts that has a prefix, or else with those of the second
-pub record FirstPrefixed (two one : Cut) (end : ℕ) (r : Symbol) : Type 0 where
+pub record FirstPrefixed (two one : PrefixCut) (end : ℕ) (r : SymbolAt) : Type 0 where
   pub first : 0 < two .prefix → (s : List ℕ) → symbol-in s r ≡ unknown (place (two .prefix)) (between s (two .rest) end)
   pub second : two .prefix ≤ 0 → (s : List ℕ) → symbol-in s r ≡ unknown (place (one .prefix)) (between s (one .rest) end)
-  pub bounded : (start : ℕ) → start ≤ two .rest → start ≤ one .rest → Bounded start end r
+  pub bounded : (start : ℕ) → start ≤ two .rest → start ≤ one .rest → BoundedSymbol start end r
   pub upto : UpTo end r
 
 -- SLOTS

@@ -6,7 +6,7 @@ pub mod properties;
 pub mod tables;
 
 // What a spelling stands for.
-pub struct Symbol {
+pub struct SymbolAt {
     // Whether its unit is known.
     pub known: bool,
     // One more than the place of its prefix in the table of prefixes; 0 without a prefix.
@@ -25,7 +25,7 @@ pub struct Span {
 }
 
 // A spelling cut after its first letters.
-pub struct Cut {
+pub struct PrefixCut {
     // One more than the place of the prefix that these letters are; 0 where they are none or nothing follows them.
     pub prefix: u8,
     // Where the rest starts: after the prefix, or where the spelling starts if there is none.

@@ -1,7 +1,7 @@
 // The lookup of a spelling by the rule of the first fit. The columns of the tables are lent by the caller.
-use crate::Cut;
+use crate::PrefixCut;
 use crate::Span;
-use crate::Symbol;
+use crate::SymbolAt;
 use crate::groups::first_in_group;
 use crate::keys::first_quote;
 use crate::keys::has_notation;
@@ -21,7 +21,7 @@ ghost use Rattle.label.specs.Symbols.{known, unknown, unit-named, known-cuts, b
 ghost use Rattle.symbols.specs.Keys.{agrees};
 ghost use Rattle.symbols.specs.Sets.{has-bit};
 ghost use Rattle.symbols.specs.Columns.{NameColumns, prefix-codes};
-ghost use Rattle.symbols.specs.Views.{place, symbol-in, Bounded, UpTo, LettersAt, after-prefix, CutAt, FirstPrefixed};
+ghost use Rattle.symbols.specs.Views.{place, symbol-in, BoundedSymbol, UpTo, LettersAt, after-prefix, CutAt, FirstPrefixed};
 
 // In how many groups the keys of the names are.
 const GROUPS: u64 = 147;
@@ -90,12 +90,12 @@ pub fn prefix_named(prefixes: &[u32], s: &[u8], start: usize, end: usize) -> u8
 }
 
 // A known symbol. `unit` is one more than the row of its unit.
-fn known_symbol(prefix: u8, unit: u8) -> Symbol
+fn known_symbol(prefix: u8, unit: u8) -> SymbolAt
     requires { ⌜ 0 < unit ⌝ }
     ensures { λ r. ⌜ ((s : List ℕ) → symbol-in s r ≡ known (place prefix) (unit - 1)) ⌝ }
-    ensures { λ r. ⌜ ((start end : ℕ) → Bounded start end r × UpTo end r) ⌝ }
+    ensures { λ r. ⌜ ((start end : ℕ) → BoundedSymbol start end r × UpTo end r) ⌝ }
 {
-    Symbol {
+    SymbolAt {
         known: true,
         prefix,
         unit: unit - 1,
@@ -105,12 +105,12 @@ fn known_symbol(prefix: u8, unit: u8) -> Symbol
 }
 
 // An unknown symbol, whose letters are from `start` up to `end`.
-fn unknown_symbol(prefix: u8, start: usize, end: usize) -> Symbol
+fn unknown_symbol(prefix: u8, start: usize, end: usize) -> SymbolAt
     requires { ⌜ start ≤ end ⌝ }
     ensures { λ r. ⌜ ((s : List ℕ) → symbol-in s r ≡ unknown (place prefix) (between s start end)) ⌝ }
-    ensures { λ r. ⌜ Bounded start end r × ((r .start ≡ start) × (r .end ≡ end)) ⌝ }
+    ensures { λ r. ⌜ BoundedSymbol start end r × ((r .start ≡ start) × (r .end ≡ end)) ⌝ }
 {
-    Symbol {
+    SymbolAt {
         known: false,
         prefix,
         unit: 0,
@@ -120,13 +120,13 @@ fn unknown_symbol(prefix: u8, start: usize, end: usize) -> Symbol
 }
 
 // The prefix that the first `count` letters of a spelling are, where letters follow them.
-fn cut(prefixes: &[u32], s: &[u8], span: Span, count: usize) -> Cut
+fn cut(prefixes: &[u32], s: &[u8], span: Span, count: usize) -> PrefixCut
     requires { ⌜ now prefixes ≡ prefix-codes ⌝ }
     requires { ⌜ (span .start ≤ span .end) × (span .end ≤ length (now s)) ⌝ }
     ensures { λ r. ⌜ CutAt count (now (s .entry)) (span .start) (span .end) r ⌝ }
 {
     if span.end - span.start <= count {
-        return Cut {
+        return PrefixCut {
             prefix: 0,
             rest: span.start,
         };
@@ -134,19 +134,19 @@ fn cut(prefixes: &[u32], s: &[u8], span: Span, count: usize) -> Cut
     let middle = span.start + count;
     let prefix = prefix_named(prefixes, s, span.start, middle);
     if prefix == 0 {
-        return Cut {
+        return PrefixCut {
             prefix: 0,
             rest: span.start,
         };
     }
-    Cut {
+    PrefixCut {
         prefix,
         rest: middle,
     }
 }
 
 // One more than the row of the unit that the letters after a prefix name, or 0. Without a prefix it is 0.
-fn unit_after(keys: &[u64], codes: &[u32], n: u8, s: &[u8], cut: Cut, end: usize) -> u8
+fn unit_after(keys: &[u64], codes: &[u32], n: u8, s: &[u8], cut: PrefixCut, end: usize) -> u8
     requires { ⌜ NameColumns (now keys) (now codes) ⌝ }
     requires { ⌜ (cut .rest ≤ end) × (end ≤ length (now s)) ⌝ }
     ensures { λ r. ⌜ place r ≡ after-prefix (place (cut .prefix)) (unit-named n (between (now (s .entry)) (cut .rest) end)) ⌝ }
@@ -158,7 +158,7 @@ fn unit_after(keys: &[u64], codes: &[u32], n: u8, s: &[u8], cut: Cut, end: usize
 }
 
 // The unknown symbol with the prefix of the first cut that has one, or without a prefix.
-fn first_prefixed(two: Cut, one: Cut, end: usize) -> Symbol
+fn first_prefixed(two: PrefixCut, one: PrefixCut, end: usize) -> SymbolAt
     requires { ⌜ (two .rest ≤ end) × (one .rest ≤ end) ⌝ }
     ensures { λ r. ⌜ FirstPrefixed two one end r ⌝ }
 {
@@ -169,13 +169,13 @@ fn first_prefixed(two: Cut, one: Cut, end: usize) -> Symbol
 }
 
 // The symbol of a spelling that is not known whole: a prefix and a known rest, the longest prefix, or neither.
-fn by_cut(keys: &[u64], codes: &[u32], prefixes: &[u32], n: u8, s: &[u8], span: Span) -> Symbol
+fn by_cut(keys: &[u64], codes: &[u32], prefixes: &[u32], n: u8, s: &[u8], span: Span) -> SymbolAt
     requires { ⌜ NameColumns (now keys) (now codes) ⌝ }
     requires { ⌜ now prefixes ≡ prefix-codes ⌝ }
     requires { ⌜ (span .start ≤ span .end) × (span .end ≤ length (now s)) ⌝ }
     ensures { λ r. ⌜ symbol-in (now (s .entry)) r
         ≡ by-cut (between (now (s .entry)) (span .start) (span .end)) (known-cuts n (between (now (s .entry)) (span .start) (span .end))) ⌝ }
-    ensures { λ r. ⌜ Bounded (span .start) (span .end) r × UpTo (span .end) r ⌝ }
+    ensures { λ r. ⌜ BoundedSymbol (span .start) (span .end) r × UpTo (span .end) r ⌝ }
 {
     let two = cut(prefixes, s, span, 2);
     let after_two = unit_after(keys, codes, n, s, two, span.end);
@@ -198,13 +198,13 @@ fn unquoted_symbol(
     n: u8,
     s: &[u8],
     span: Span,
-) -> Symbol
+) -> SymbolAt
     requires { ⌜ NameColumns (now keys) (now codes) ⌝ }
     requires { ⌜ now prefixes ≡ prefix-codes ⌝ }
     requires { ⌜ (span .start ≤ span .end) × (span .end ≤ length (now s)) ⌝ }
     ensures { λ r. ⌜ symbol-in (now (s .entry)) r
         ≡ by-whole n (between (now (s .entry)) (span .start) (span .end)) (unit-named n (between (now (s .entry)) (span .start) (span .end))) ⌝ }
-    ensures { λ r. ⌜ Bounded (span .start) (span .end) r × UpTo (span .end) r ⌝ }
+    ensures { λ r. ⌜ BoundedSymbol (span .start) (span .end) r × UpTo (span .end) r ⌝ }
 {
     let whole = unit_named(keys, codes, n, s, span.start, span.end);
     if 0 < whole {
@@ -214,13 +214,13 @@ fn unquoted_symbol(
 }
 
 // The symbol of a spelling with a quote at `quote`: the prefix before the quote, and the letters up to the next quote.
-fn quoted_symbol(prefixes: &[u32], s: &[u8], span: Span, quote: usize) -> Symbol
+fn quoted_symbol(prefixes: &[u32], s: &[u8], span: Span, quote: usize) -> SymbolAt
     requires { ⌜ now prefixes ≡ prefix-codes ⌝ }
     requires { ⌜ (span .start ≤ quote) × ((quote < span .end) × (span .end ≤ length (now s))) ⌝ }
     ensures { λ r. ⌜ symbol-in (now (s .entry)) r
         ≡ unknown (prefix-named (between (now (s .entry)) (span .start) quote))
         (run unquoted (between (now (s .entry)) (quote + 1) (span .end))) ⌝ }
-    ensures { λ r. ⌜ Bounded (span .start) (span .end) r × (r .start ≡ quote + 1) ⌝ }
+    ensures { λ r. ⌜ BoundedSymbol (span .start) (span .end) r × (r .start ≡ quote + 1) ⌝ }
 {
     let prefix = prefix_named(prefixes, s, span.start, quote);
     let first = quote + 1;
@@ -229,12 +229,19 @@ fn quoted_symbol(prefixes: &[u32], s: &[u8], span: Span, quote: usize) -> Symbol
 }
 
 // The symbol that a spelling of the label stands for in notation `n`.
-pub fn symbol(keys: &[u64], codes: &[u32], prefixes: &[u32], n: u8, s: &[u8], span: Span) -> Symbol
+pub fn symbol(
+    keys: &[u64],
+    codes: &[u32],
+    prefixes: &[u32],
+    n: u8,
+    s: &[u8],
+    span: Span,
+) -> SymbolAt
     requires { ⌜ NameColumns (now keys) (now codes) ⌝ }
     requires { ⌜ now prefixes ≡ prefix-codes ⌝ }
     requires { ⌜ (span .start ≤ span .end) × (span .end ≤ length (now s)) ⌝ }
     ensures { λ r. ⌜ symbol-in (now (s .entry)) r ≡ symbol n (between (now (s .entry)) (span .start) (span .end)) ⌝ }
-    ensures { λ r. ⌜ Bounded (span .start) (span .end) r ⌝ }
+    ensures { λ r. ⌜ BoundedSymbol (span .start) (span .end) r ⌝ }
     ensures { λ r. ⌜ (r .known ≡ false → LettersAt (now (s .entry)) (span .start) (span .end) (r .start) (r .end)) ⌝ }
 {
     let quote = first_quote(s, span.start, span.end);

@@ -1,6 +1,6 @@
 // What the tables say of a symbol: whether it is lawful and recommended, its bases and its primes. Columns are lent.
 // A symbol's letters have no part in it, so each contract holds whatever the label `s` is.
-use crate::Symbol;
+use crate::SymbolAt;
 use crate::keys::has_notation;
 use label::Tens;
 ghost use mathlib.Core.Path.{_≡_};
@@ -38,7 +38,7 @@ fn signed_element(column: &[i8], i: usize) -> i32
 
 // Whether a symbol's prefix is lawful on its unit in notation `n`. A symbol that has no prefix
 // or is unknown is lawful.
-pub fn is_lawful(prefixed: &[u8], n: u8, x: Symbol) -> bool
+pub fn is_lawful(prefixed: &[u8], n: u8, x: SymbolAt) -> bool
     requires { ⌜ now prefixed ≡ unit-prefixed ⌝ }
     ensures { λ r. ⌜ ((s : List ℕ) → r ≡ is-lawful n (symbol-in s x)) ⌝ }
 {
@@ -53,7 +53,7 @@ pub fn is_lawful(prefixed: &[u8], n: u8, x: Symbol) -> bool
 }
 
 // Whether a symbol's unit is recommended. An unknown one is not.
-pub fn is_recommended(recommended: &[bool], x: Symbol) -> bool
+pub fn is_recommended(recommended: &[bool], x: SymbolAt) -> bool
     requires { ⌜ now recommended ≡ unit-recommended ⌝ }
     ensures { λ r. ⌜ ((s : List ℕ) → r ≡ is-recommended (symbol-in s x)) ⌝ }
 {
@@ -68,7 +68,7 @@ pub fn is_recommended(recommended: &[bool], x: Symbol) -> bool
 }
 
 // The base in slot `slot` of a symbol's unit. An unused slot has base 0 and power 0.
-pub fn slot_base(bases: &[u8], x: Symbol, slot: usize) -> u8
+pub fn slot_base(bases: &[u8], x: SymbolAt, slot: usize) -> u8
     requires { ⌜ (now bases ≡ unit-bases) × (slot < 4) ⌝ }
     ensures { λ r. ⌜ ((s : List ℕ) → r ≡ slot-in slot (symbol-in s x) .base) ⌝ }
 {
@@ -80,7 +80,7 @@ pub fn slot_base(bases: &[u8], x: Symbol, slot: usize) -> u8
 }
 
 // The power of that base.
-pub fn slot_power(powers: &[i8], x: Symbol, slot: usize) -> i32
+pub fn slot_power(powers: &[i8], x: SymbolAt, slot: usize) -> i32
     requires { ⌜ (now powers ≡ unit-powers) × (slot < 4) ⌝ }
     ensures { λ r. ⌜ ((s : List ℕ) → r ≡ slot-in slot (symbol-in s x) .power) ⌝ }
 {
@@ -116,7 +116,7 @@ fn prefix_prime(powers: &[i8], prefix: u8, prime: usize) -> i32
 }
 
 // The exponent of prime 2, 3, 5 or 487, at place 0 to 3, in a symbol: in its prefix, and in its unit if that is known.
-pub fn prime_power(powers: &[i8], primes: &[i8], x: Symbol, prime: usize) -> i32
+pub fn prime_power(powers: &[i8], primes: &[i8], x: SymbolAt, prime: usize) -> i32
     requires { ⌜ (now powers ≡ prefix-powers) × ((now primes ≡ unit-primes) × (prime < 4)) ⌝ }
     ensures { λ r. ⌜ ((s : List ℕ) → r ≡ prime-in (prime-at prime) (symbol-in s x)) ⌝ }
 {

@@ -19,7 +19,7 @@ use Rattle.label.specs.Ranges.{between, numeral-in, Inside}
 use Rattle.scan.specs.Runs.{Run, is-zero}
 use Rattle.tokens.specs.declared.number.IntegerAt.{IntegerAt}
 use Rattle.tokens.specs.declared.factor.FactorAt.{FactorAt}
-use Rattle.tokens.specs.Answers.{integer-found, ReadsInteger, begins, ReadsFactor, Tens}
+use Rattle.tokens.specs.Answers.{integer-found, ReadsInteger, begins, ReadsFactor, AsTens}
 use Rattle.label.proofs.Basics.{and-left}
 use Rattle.label.proofs.Between.{length-between, between-cons}
 use Rattle.tokens.proofs.Readers.{by-byte, closed-room, closed-found, closed-none, on-from, read-to, integer-read}
@@ -119,7 +119,7 @@ module _ (r : Rules) (s : List ℕ) (at : ℕ) where
   wrapped₁ e w v =
       on-from (wrapped-is ∙ rw e (ap (λ (x : Found Numeral). closed ten-to x) (w .is))) (omega (arith, w .ahead, w .inside .forward)) v
 
-  pub wrapped₂ : {i : IntegerAt} {o : FactorAt} → (eqb (getD s at 0) open-bracket && r .wrapped) ≡ false → ReadsInteger (integer (drop at s)) s at i → Tens i o
+  pub wrapped₂ : {i : IntegerAt} {o : FactorAt} → (eqb (getD s at 0) open-bracket && r .wrapped) ≡ false → ReadsInteger (integer (drop at s)) s at i → AsTens i o
       → ReadsFactor (wrapped r (drop at s)) s at o
   wrapped₂ e w v = integer-read TenTo ten-to refl (λ j. j) (wrapped-is ∙ rw e) w v
 
@@ -146,7 +146,7 @@ module _ (r : Rules) (s ds : List ℕ) (at : ℕ) where
       (pick (eqb c caret && r .caret) (wrapped r u) (pick (eqb c star) (starred-factor r u) (plain-factor r ds w))))
       (λ c u. refl) refl s at
 
-  pub ten₁ : {i : IntegerAt} {o : FactorAt} → (sign (getD s at 0) && r .signed) ≡ true → ReadsInteger (integer (drop at s)) s at i → Tens i o
+  pub ten₁ : {i : IntegerAt} {o : FactorAt} → (sign (getD s at 0) && r .signed) ≡ true → ReadsInteger (integer (drop at s)) s at i → AsTens i o
       → ReadsFactor (ten-factor r ds (drop at s)) s at o
   ten₁ e w v = integer-read TenTo ten-to refl (λ j. j) (ten-is ∙ rw e) w v
 

@@ -20,7 +20,7 @@ use Rattle.scan.specs.Founds.{found-by}
 use Rattle.tokens.specs.declared.number.DigitsAt.{DigitsAt}
 use Rattle.tokens.specs.declared.number.IntegerAt.{IntegerAt}
 use Rattle.tokens.specs.declared.power.PowerAt.{PowerAt}
-use Rattle.tokens.specs.Answers.{digits-found, ReadsDigits, ReadsInteger, ReadsPower, begins, Powers}
+use Rattle.tokens.specs.Answers.{digits-found, ReadsDigits, ReadsInteger, ReadsPower, begins, AsPower}
 use Rattle.tokens.proofs.Readers.{by-byte, then-by, closed-room, closed-found, closed-none, on-from, read-to, integer-read}
 
 abbrev pub no-power : ℕ → PowerAt
@@ -120,7 +120,7 @@ module _ (s : List ℕ) (at : ℕ) where
   pub power₁ : {o : PowerAt} → getD s at 0 ≡ open-bracket → ReadsPower (bracketed (drop (at + 1) s)) s (at + 1) o → ReadsPower (power (drop at s)) s at o
   power₁ e v = on-from (power-is ∙ rw (eq-eqb _ _ e)) (omega arith) v
 
-  pub power₂ : {i : IntegerAt} {o : PowerAt} → (getD s at 0 ≡ open-bracket → ⊥) → ReadsInteger (integer (drop at s)) s at i → Powers i o
+  pub power₂ : {i : IntegerAt} {o : PowerAt} → (getD s at 0 ≡ open-bracket → ⊥) → ReadsInteger (integer (drop at s)) s at i → AsPower i o
       → ReadsPower (power (drop at s)) s at o
   power₂ e w v = integer-read Whole whole refl (λ j. j) (power-is ∙ rw (ne-eqb _ _ e)) w v
 
@@ -157,7 +157,7 @@ module _ (r : Rules) (s : List ℕ) (at : ℕ) where
       (found unwritten w)))))
       (λ c u. refl) refl s at
 
-  pub after₁ : {i : IntegerAt} {o : PowerAt} → ((sign (getD s at 0) || digit (getD s at 0)) && r .direct) ≡ true → ReadsInteger (integer (drop at s)) s at i → Powers i o
+  pub after₁ : {i : IntegerAt} {o : PowerAt} → ((sign (getD s at 0) || digit (getD s at 0)) && r .direct) ≡ true → ReadsInteger (integer (drop at s)) s at i → AsPower i o
       → ReadsPower (exponent r (drop at s)) s at o
   after₁ e w v = integer-read Whole whole refl (λ j. j) (exponent-is ∙ rw e) w v
 

@@ -18,7 +18,7 @@ use Rattle.label.proofs.Basics.{and-left, and-right}
 use Rattle.scan.specs.Founds.{found-by}
 use Rattle.label.proofs.Between.{here, beyond, byte-inside, byte-outside}
 use Rattle.tokens.specs.declared.number.IntegerAt.{IntegerAt}
-use Rattle.tokens.specs.Answers.{Answer, Reads, Wraps, ReadsInteger, begins}
+use Rattle.tokens.specs.Answers.{AnswerFields, ReadsBy, Wraps, ReadsInteger, begins}
 
 -- BY THE BYTE AT A PLACE
 
@@ -109,20 +109,20 @@ module _ (s : List ℕ) (at : ℕ) where
 
 -- ANSWERS
 
-module _ {O W A : Type 0} {v : Answer O W A} {x : Found A} {s : List ℕ} {at : ℕ} {o : O} where
+module _ {O W A : Type 0} {v : AnswerFields O W A} {x : Found A} {s : List ℕ} {at : ℕ} {o : O} where
   -- the same is read from here on
-  pub on-from : {y : Found A} {from : ℕ} → x ≡ y → at ≤ from → Reads v y s from o → Reads v x s at o
+  pub on-from : {y : Found A} {from : ℕ} → x ≡ y → at ≤ from → ReadsBy v y s from o → ReadsBy v x s at o
   on-from e l w = record { is = e ∙ w .is; ahead = omega (arith, w .ahead); within = w .within; inside = w .inside }
 
   -- what is found, or nothing, up to where the answer says
   pub read-to : at ≤ v .next o → v .next o ≤ length s → v .inside s (v .ranges o) → x ≡ found-by (v .ok o) (v .value s (v .ranges o)) (drop (v .next o) s)
-      → Reads v x s at o
+      → ReadsBy v x s at o
   read-to a h i e = record { is = e; ahead = a; within = h; inside = i }
 
   -- an integer, as the case f of the ranges, which stands for the case g
   pub integer-read : {y : Found Numeral} {i : IntegerAt} (f : SignedDigits → W) (g : Numeral → A)
       → v .value s (f (i .integer)) ≡ g (numeral-in s (i .integer)) → (Inside s (i .integer .digits) → v .inside s (f (i .integer)))
-      → x ≡ mapped g y → ReadsInteger y s at i → Wraps v f i o → Reads v x s at o
+      → x ≡ mapped g y → ReadsInteger y s at i → Wraps v f i o → ReadsBy v x s at o
   integer-read {i = i} f g p j e w k = record {
     is =
         e ∙ ap (λ (x : Found Numeral). mapped g x) (w .is) ∙ mapped-by g (i .ok) (numeral-in s (i .integer)) (drop (i .integer .digits .end) s)

@@ -57,41 +57,41 @@ begins c (d ∷ s) = eqb d c
 
 -- What an answer O of a reader tells: whether it found any, where it ends, the ranges W that it found, what they stand for in a text (a value of A),
 -- and that they are inside the text.
-pub record Answer (O W A : Type 0) : Type 1 where
+pub record AnswerFields (O W A : Type 0) : Type 1 where
   pub ok : O → Bool
   pub next : O → ℕ
   pub ranges : O → W
   pub value : List ℕ → W → A
   pub inside : List ℕ → W → Type 0
 
-pub record Reads {O W A : Type 0} (v : Answer O W A) (x : Found A) (s : List ℕ) (at : ℕ) (o : O) : Type 0 where
+pub record ReadsBy {O W A : Type 0} (v : AnswerFields O W A) (x : Found A) (s : List ℕ) (at : ℕ) (o : O) : Type 0 where
   pub is : x ≡ found-by (v .ok o) (v .value s (v .ranges o)) (drop (v .next o) s)
   pub ahead : at ≤ v .next o
   pub within : v .next o ≤ length s
   pub inside : v .inside s (v .ranges o)
 
 -- an integer under a case of W
-pub record Wraps {O W A : Type 0} (v : Answer O W A) (f : SignedDigits → W) (i : IntegerAt) (o : O) : Type 0 where
+pub record Wraps {O W A : Type 0} (v : AnswerFields O W A) (f : SignedDigits → W) (i : IntegerAt) (o : O) : Type 0 where
   pub ok : v .ok o ≡ i .ok
   pub next : v .next o ≡ i .integer .digits .end
   pub is : v .ranges o ≡ f (i .integer)
 
-abbrev pub power-answer : Answer PowerAt WrittenPower Written
+abbrev pub power-answer : AnswerFields PowerAt WrittenPower Written
 power-answer = record { ok = λ o. o .ok; next = λ o. o .next; ranges = λ o. o .power; value = written-in; inside = PowerInside }
 
 abbrev pub ReadsPower : Found Written → List ℕ → ℕ → PowerAt → Type 0
-ReadsPower = Reads power-answer
+ReadsPower = ReadsBy power-answer
 
 -- an integer as a power
-abbrev pub Powers : IntegerAt → PowerAt → Type 0
-Powers = Wraps power-answer Whole
+abbrev pub AsPower : IntegerAt → PowerAt → Type 0
+AsPower = Wraps power-answer Whole
 
-abbrev pub factor-answer : Answer FactorAt WrittenFactor Factor
+abbrev pub factor-answer : AnswerFields FactorAt WrittenFactor Factor
 factor-answer = record { ok = λ o. o .ok; next = λ o. o .next; ranges = λ o. o .factor; value = factor-in; inside = FactorInside }
 
 abbrev pub ReadsFactor : Found Factor → List ℕ → ℕ → FactorAt → Type 0
-ReadsFactor = Reads factor-answer
+ReadsFactor = ReadsBy factor-answer
 
 -- an integer as a power of ten
-abbrev pub Tens : IntegerAt → FactorAt → Type 0
-Tens = Wraps factor-answer TenTo
+abbrev pub AsTens : IntegerAt → FactorAt → Type 0
+AsTens = Wraps factor-answer TenTo

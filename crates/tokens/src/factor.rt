@@ -15,7 +15,7 @@ ghost use lib.ListN.{length, drop};
 ghost use Rattle.label.specs.Lexical.{ten-to};
 ghost use Rattle.label.specs.Parse.{closed, plain-digits, plain-factor, wrapped, starred-factor, ten-factor, ten, factor};
 ghost use Rattle.label.specs.Ranges.{between, Inside};
-ghost use Rattle.tokens.specs.Answers.{integer-found, ReadsFactor, Tens};
+ghost use Rattle.tokens.specs.Answers.{integer-found, ReadsFactor, AsTens};
 
 // A factor from a place on, up to `next`, or none where `ok` is false.
 pub struct FactorAt {
@@ -60,8 +60,8 @@ pub fn plain_factor(r: Rules, s: &[u8], start: usize, end: usize) -> FactorAt
 }
 
 // An integer as a power of ten.
-pub fn tens(i: IntegerAt) -> FactorAt
-    ensures { λ o. ⌜ Tens i o ⌝ }
+pub fn ten_to(i: IntegerAt) -> FactorAt
+    ensures { λ o. ⌜ AsTens i o ⌝ }
 {
     let n = i.integer;
     let d = n.digits;
@@ -102,7 +102,7 @@ pub fn wrapped(r: Rules, s: &[u8], at: usize) -> FactorAt
     if both(byte_at(s, at) == b'(', r.wrapped) {
         return closed_tens(s, integer(s, at + 1));
     }
-    tens(integer(s, at))
+    ten_to(integer(s, at))
 }
 
 // From after the first of two stars.
@@ -128,7 +128,7 @@ pub fn ten_factor(r: Rules, s: &[u8], start: usize, end: usize) -> FactorAt
 {
     let c = byte_at(s, end);
     if both(is_sign(c), r.signed) {
-        return tens(integer(s, end));
+        return ten_to(integer(s, end));
     }
     if both(c == b'^', r.caret) {
         return wrapped(r, s, end + 1);

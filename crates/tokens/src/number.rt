@@ -1,5 +1,5 @@
 // Digits and integers.
-use label::Digits;
+use label::DigitRange;
 use label::SignedDigits;
 use scan::class::byte_at;
 use scan::class::is_digit;
@@ -14,7 +14,7 @@ ghost use Rattle.tokens.specs.Answers.{led, ReadsDigits, ReadsInteger, S
 // Digits from a place on, or none where `ok` is false.
 pub struct DigitsAt {
     pub ok: bool,
-    pub digits: Digits,
+    pub digits: DigitRange,
 }
 
 // An integer from a place on, or none where `ok` is false.
@@ -32,13 +32,13 @@ fn led_by(s: &[u8], at: usize, first: bool) -> DigitsAt
     if !first {
         return DigitsAt {
             ok: false,
-            digits: Digits { start: at, end: at },
+            digits: DigitRange { start: at, end: at },
         };
     }
     let end = scan::run::digits(s, at + 1);
     DigitsAt {
         ok: true,
-        digits: Digits { start: at, end },
+        digits: DigitRange { start: at, end },
     }
 }
 

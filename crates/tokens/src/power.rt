@@ -4,7 +4,7 @@ use crate::number::IntegerAt;
 use crate::number::integer;
 use crate::number::some_digits;
 use crate::number::unsigned;
-use label::Digits;
+use label::DigitRange;
 use label::Rules;
 use label::SignedDigits;
 use label::WrittenPower;
@@ -20,7 +20,7 @@ ghost use lib.ListN.{length, drop};
 ghost use Rattle.label.specs.Bytes.{digit, close-bracket};
 ghost use Rattle.label.specs.Parse.{closed, sign, bracketed-on, bracketed, power, starred, exponent};
 ghost use Rattle.label.specs.Ranges.{numeral-in, written-in, Inside, PowerInside};
-ghost use Rattle.tokens.specs.Answers.{digits-found, begins, ReadsPower, Powers};
+ghost use Rattle.tokens.specs.Answers.{digits-found, begins, ReadsPower, AsPower};
 
 // A power from a place on, up to `next`, or none where `ok` is false.
 pub struct PowerAt {
@@ -110,7 +110,7 @@ pub fn bracketed(s: &[u8], at: usize) -> PowerAt
 
 // An integer as a power.
 pub fn whole(i: IntegerAt) -> PowerAt
-    ensures { λ o. ⌜ Powers i o ⌝ }
+    ensures { λ o. ⌜ AsPower i o ⌝ }
 {
     let n = i.integer;
     let d = n.digits;

@@ -7,12 +7,12 @@ use mathlib.Core.List.{List, [], _∷_, _++_}
 use lib.ListN.{length, getD}
 use Rattle.label.specs.Limits.{number-from, number}
 use Rattle.label.specs.Ranges.{between, digits-in, Inside}
-use Rattle.label.specs.declared.Digits.{Digits}
+use Rattle.label.specs.declared.DigitRange.{DigitRange}
 use Rattle.label.proofs.Between.{length-between, between-none, between-cons}
 use Rattle.values.specs.Bounds.{number-bound}
 
 -- the length of a run
-pub run-length : (s : List ℕ) (d : Digits) → Inside s d → length (digits-in s d) ≡ d .end - d .start
+pub run-length : (s : List ℕ) (d : DigitRange) → Inside s d → length (digits-in s d) ≡ d .end - d .start
 run-length s d h = length-between s (d .start) (d .end) (h .within)
 
 -- digits after digits write on from the number of the first
@@ -26,20 +26,20 @@ unfolding number
 number-append xs ys = from-append 0 xs ys
 
 -- value is the number that the digits from start up to i write after n, and 23 more than it is at most tenfold for each
-pub record Passed (s : List ℕ) (n start end i value : ℕ) : Type 0 where
+pub record NumberBefore (s : List ℕ) (n start end i value : ℕ) : Type 0 where
   pub after : start ≤ i
   pub before : i ≤ end
   pub same : number-from value (between s i end) ≡ number-from n (between s start end)
   pub size : value + 23 ≤ (n + 23) * 10 ^ (i - start)
 
-pub passed-none : (s : List ℕ) (n start end : ℕ) → start ≤ end → Passed s n start end start n
+pub passed-none : (s : List ℕ) (n start end : ℕ) → start ≤ end → NumberBefore s n start end start n
 passed-none s n start end h = record { after = omega arith; before = h; same = refl; size = rw (sub-self start, mul-one (n + 23)) (omega arith) }
 
 -- fewer digits bring no more
 at-most : (b k m : ℕ) → k ≤ m → b * 10 ^ k ≤ b * 10 ^ m
 at-most b k m h = mul-le-mul-left b (pow-le-pow-right (omega arith) h)
 
-module _ {s : List ℕ} {n start end i value : ℕ} (f : end - start ≤ 4) (w : Passed s n start end i value) where
+module _ {s : List ℕ} {n start end i value : ℕ} (f : end - start ≤ 4) (w : NumberBefore s n start end i value) where
   pub passed-size : value + 23 ≤ (n + 23) * 10_000
   passed-size = omega (arith, at-most (n + 23) (i - start) 4 (omega (arith, w .before)), w .size)
 
@@ -48,7 +48,7 @@ module _ {s : List ℕ} {n start end i value : ℕ} (f : end - start ≤ 4) (w :
   passed-room h g = omega (arith, at-most (n + 23) (i - start) 3 (omega (arith, w .after)), w .size)
 
 module _ (s : List ℕ) (n start end i value x : ℕ) (l : end ≤ length s) (h : i < end) (e : x ≡ getD s i 0 - 48) (g : x ≤ 207) where
-  pub passed-more : Passed s n start end i value → Passed s n start end (i + 1) (value * 10 + x)
+  pub passed-more : NumberBefore s n start end i value → NumberBefore s n start end (i + 1) (value * 10 + x)
   unfolding number-from
   passed-more w =
       let k : i + 1 - start ≡ suc (i - start) = omega (arith, w .after) in
@@ -60,7 +60,7 @@ module _ (s : List ℕ) (n start end i value x : ℕ) (l : end ≤ length s) (h 
         size = rw p (omega (arith, w .size));
       }
 
-pub passed-end : (s : List ℕ) (n start end i value : ℕ) → end ≤ i → Passed s n start end i value → value ≡ number-from n (between s start end)
+pub passed-end : (s : List ℕ) (n start end i value : ℕ) → end ≤ i → NumberBefore s n start end i value → value ≡ number-from n (between s start end)
 unfolding number-from
 passed-end s n start end i value h w =
     let e : i ≡ end = omega (arith, w .before) in

@@ -10,7 +10,7 @@ use mir.Syntax.{w32}
 use mir.Val.{toZ, ofZ}
 use native.Mathlib.Omega.{arith}
 use borrow.Author.Tests.{leb-true, le-leb, lt-leb, eq-eqb, ne-eqb}
-use Rattle.label.specs.declared.Digits.{Digits}
+use Rattle.label.specs.declared.DigitRange.{DigitRange}
 use Rattle.label.specs.declared.Exponent.{Exponent}
 use Rattle.label.specs.Choice.{pick}
 use Rattle.label.specs.Limits.{Ratio, short, signed, exclusive-or, in-sixtieths, sixtieths, bounded, exponent-in}
@@ -18,7 +18,7 @@ use Rattle.label.specs.Ranges.{digits-in, Inside}
 use Rattle.label.proofs.Basics.{false-true, and-left, and-right}
 use Rattle.values.specs.Bounds.{numerator-bound}
 use Rattle.values.specs.declared.ratios.Quotient.{Quotient}
-use Rattle.values.specs.Quotients.{ratio-of, Holds}
+use Rattle.values.specs.Quotients.{ratio-of, HoldsRatio}
 use Rattle.values.proofs.Numbers.{run-length}
 use Rattle.values.proofs.SignedNumbers.{told}
 
@@ -58,14 +58,14 @@ module _ (t : Bool) (q : Ratio) where
 -- WHAT A QUOTIENT HOLDS
 
 -- what holds a ratio has its exponent
-pub held : (t : Bool) (x : Ratio) (q : Quotient) → Holds x q → exponent-in t (ratio-of q) ≡ exponent-in t x
+pub held : (t : Bool) (x : Ratio) (q : Quotient) → HoldsRatio x q → exponent-in t (ratio-of q) ≡ exponent-in t x
 held t x q w = go (x .short) refl
   where
     go : (b : Bool) → x .short ≡ b → exponent-in t (ratio-of q) ≡ exponent-in t x
     go true e = ap (exponent-in t) (w .is e)
     go false e = long-none t (ratio-of q) (w .short ∙ e) ∙ sym (long-none t x e)
 
-pub holds-long : (x : Ratio) (q : Quotient) → q .short ≡ false → q .numerator < numerator-bound → x .short ≡ false → Holds x q
+pub holds-long : (x : Ratio) (q : Quotient) → q .short ≡ false → q .numerator < numerator-bound → x .short ≡ false → HoldsRatio x q
 holds-long x q e h f = record { short = e ∙ sym f; is = λ g. absurd (false-true (sym f ∙ g)); small = h }
 
 -- ratios with the same fields
@@ -74,19 +74,19 @@ same-fields : {a b : Bool} {m n d e : ℕ} {x y : Bool} → a ≡ b → m ≡ n 
 same-fields p q r s = rw (p, q, r, s)
 
 pub holds-short : (x : Ratio) (q : Quotient) → q .negative ≡ x .negative → q .numerator ≡ x .numerator → q .denominator ≡ x .denominator →
-    q .short ≡ true → x .short ≡ true → q .numerator < numerator-bound → Holds x q
+    q .short ≡ true → x .short ≡ true → q .numerator < numerator-bound → HoldsRatio x q
 holds-short x q a b c e f h = record { short = e ∙ sym f; is = λ _. same-fields a b c (e ∙ sym f); small = h }
 
 -- a run inside the text is short exactly if its places say so
-pub short-in : (s : List ℕ) (d : Digits) → Inside s d → short (digits-in s d) ≡ leb (d .end - d .start) 4
+pub short-in : (s : List ℕ) (d : DigitRange) → Inside s d → short (digits-in s d) ≡ leb (d .end - d .start) 4
 short-in s d h = ap (λ (n : ℕ). leb n 4) (run-length s d h)
 
-pub both-short-in : (s : List ℕ) (a b : Digits) → Inside s a → Inside s b →
+pub both-short-in : (s : List ℕ) (a b : DigitRange) → Inside s a → Inside s b →
     (short (digits-in s a) && short (digits-in s b)) ≡ (leb (a .end - a .start) 4 && leb (b .end - b .start) 4)
 both-short-in s a b h g = rw (short-in s a h, short-in s b g)
 
 -- two runs that are short
-pub runs-short : (a b : Digits) → (leb (a .end - a .start) 4 && leb (b .end - b .start) 4) ≡ true → (a .end - a .start ≤ 4) × (b .end - b .start ≤ 4)
+pub runs-short : (a b : DigitRange) → (leb (a .end - a .start) 4 && leb (b .end - b .start) 4) ≡ true → (a .end - a .start ≤ 4) × (b .end - b .start ≤ 4)
 runs-short a b e =
     let x = leb (a .end - a .start) 4 in
     let y = leb (b .end - b .start) 4 in

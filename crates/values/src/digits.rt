@@ -1,5 +1,5 @@
 // Runs of digits: whether a run is short, and the number that a short run writes.
-use label::Digits;
+use label::DigitRange;
 ghost use mathlib.Core.Path.{_≡_};
 ghost use mathlib.Core.Bool.{_&&_};
 ghost use Prim.Native.Nat.{_+_, _*_, _-_, _<_, _≤_};
@@ -10,7 +10,7 @@ ghost use Rattle.label.specs.Ranges.{digits-in, Inside};
 ghost use Rattle.values.specs.Bounds.{number-bound};
 
 // Whether a run has at most four digits.
-pub fn is_short(d: Digits) -> bool
+pub fn is_short(d: DigitRange) -> bool
     requires { ⌜ d .start ≤ d .end ⌝ }
     ensures { λ r. ⌜ r ≡ leb (d .end - d .start) most-digits ⌝ }
 {
@@ -20,7 +20,7 @@ pub fn is_short(d: Digits) -> bool
 }
 
 // Whether two runs have at most four digits each.
-pub fn are_short(a: Digits, b: Digits) -> bool
+pub fn are_short(a: DigitRange, b: DigitRange) -> bool
     requires { ⌜ a .start ≤ a .end ⌝ }
     requires { ⌜ b .start ≤ b .end ⌝ }
     ensures { λ r. ⌜ r ≡ (leb (a .end - a .start) most-digits && leb (b .end - b .start) most-digits) ⌝ }
@@ -43,7 +43,7 @@ fn digit_value(c: u8) -> u32
 
 // The number that a short run of digits writes after the number `n`. specs/Bounds.antt says why it
 // has its bound.
-pub fn number_from(s: &[u8], n: u32, d: Digits) -> u32
+pub fn number_from(s: &[u8], n: u32, d: DigitRange) -> u32
     requires { ⌜ Inside (now s) d ⌝ }
     requires { ⌜ d .end - d .start ≤ most-digits ⌝ }
     requires { ⌜ n < number-bound ⌝ }
@@ -61,7 +61,7 @@ pub fn number_from(s: &[u8], n: u32, d: Digits) -> u32
 }
 
 // The number that a short run of digits writes.
-pub fn number(s: &[u8], d: Digits) -> u32
+pub fn number(s: &[u8], d: DigitRange) -> u32
     requires { ⌜ Inside (now s) d ⌝ }
     requires { ⌜ d .end - d .start ≤ most-digits ⌝ }
     ensures { λ r. ⌜ r ≡ number (digits-in (now (s .entry)) d) ⌝ }

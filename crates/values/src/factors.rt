@@ -22,7 +22,7 @@ pub struct MaybeTens {
 }
 
 // Ten to the `k` under a sign, if `k` keeps its bound.
-fn bounded(negative: bool, k: usize) -> MaybeTens
+fn signed_tens(negative: bool, k: usize) -> MaybeTens
     ensures { λ r. ⌜ given (r .ok) (r .k) ≡ tens true negative k ⌝ }
     ensures refused { λ r. ⌜ (r .ok ≡ false → r .k .0 ≡ pos 0) ⌝ }
 {
@@ -51,7 +51,7 @@ fn ten_to(s: &[u8], n: SignedDigits) -> MaybeTens
             k: Tens(0),
         };
     }
-    bounded(n.negative, number(s, digits) as usize)
+    signed_tens(n.negative, number(s, digits) as usize)
 }
 
 // The power of ten that a factor is, 0 without one, if the factor keeps its bounds.
@@ -66,6 +66,6 @@ pub fn factor(s: &[u8], f: WrittenFactor) -> MaybeTens
             k: Tens(0),
         },
         WrittenFactor::TenTo(n) => ten_to(s, n),
-        WrittenFactor::Zeros(k) => bounded(false, k),
+        WrittenFactor::Zeros(k) => signed_tens(false, k),
     }
 }

@@ -82,7 +82,7 @@ fn exponent_in(turned: bool, q: Quotient) -> MaybeExponent
 }
 
 // The exponent that a power stands for, turned over by slashes or not, if it keeps its bounds.
-pub fn exponent(s: &[u8], turned: bool, w: WrittenPower) -> MaybeExponent
+pub fn exponent_of(s: &[u8], turned: bool, w: WrittenPower) -> MaybeExponent
     requires { ⌜ PowerInside (now s) w ⌝ }
     ensures { λ r. ⌜ given (r .ok) (r .exponent) ≡ exponent-of turned (written-in (now (s .entry)) w) ⌝ }
     ensures refused { λ r. ⌜ (r .ok ≡ false → r .exponent .0 ≡ pos 0) ⌝ }

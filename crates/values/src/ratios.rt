@@ -3,7 +3,7 @@ use crate::digits::are_short;
 use crate::digits::is_short;
 use crate::digits::number;
 use crate::digits::number_from;
-use label::Digits;
+use label::DigitRange;
 use label::SignedDigits;
 use label::WrittenPower;
 ghost use mathlib.Core.Path.{_≡_};
@@ -13,7 +13,7 @@ ghost use Rattle.label.specs.Lexical.{whole, decimal, fraction};
 ghost use Rattle.label.specs.Limits.{most-digits, ratio};
 ghost use Rattle.label.specs.Ranges.{digits-in, numeral-in, written-in, Inside, PowerInside};
 ghost use Rattle.values.specs.Bounds.{numerator-bound};
-ghost use Rattle.values.specs.Quotients.{Holds};
+ghost use Rattle.values.specs.Quotients.{HoldsRatio};
 
 // A power's sign, its size as a fraction, and whether its digit runs are short. The fraction is 0/1 where one is long.
 pub struct Quotient {
@@ -53,7 +53,7 @@ fn long(negative: bool) -> Quotient
 // The ratio that an integer is.
 fn whole_ratio(s: &[u8], n: SignedDigits) -> Quotient
     requires { ⌜ Inside (now s) (n .digits) ⌝ }
-    ensures { λ r. ⌜ Holds (ratio (whole (numeral-in (now (s .entry)) n))) r ⌝ }
+    ensures { λ r. ⌜ HoldsRatio (ratio (whole (numeral-in (now (s .entry)) n))) r ⌝ }
 {
     let digits = n.digits;
     if !is_short(digits) {
@@ -68,10 +68,10 @@ fn whole_ratio(s: &[u8], n: SignedDigits) -> Quotient
 }
 
 // The ratio that a decimal is: its digits as one number, over ten to the count of those after the point.
-fn decimal_ratio(s: &[u8], n: SignedDigits, d: Digits) -> Quotient
+fn decimal_ratio(s: &[u8], n: SignedDigits, d: DigitRange) -> Quotient
     requires { ⌜ Inside (now s) (n .digits) ⌝ }
     requires { ⌜ Inside (now s) d ⌝ }
-    ensures { λ r. ⌜ Holds (ratio (decimal (numeral-in (now (s .entry)) n) (digits-in (now (s .entry)) d))) r ⌝ }
+    ensures { λ r. ⌜ HoldsRatio (ratio (decimal (numeral-in (now (s .entry)) n) (digits-in (now (s .entry)) d))) r ⌝ }
 {
     let digits = n.digits;
     if !are_short(digits, d) {
@@ -87,10 +87,10 @@ fn decimal_ratio(s: &[u8], n: SignedDigits, d: Digits) -> Quotient
 }
 
 // The ratio that a fraction is.
-fn fraction_ratio(s: &[u8], n: SignedDigits, d: Digits) -> Quotient
+fn fraction_ratio(s: &[u8], n: SignedDigits, d: DigitRange) -> Quotient
     requires { ⌜ Inside (now s) (n .digits) ⌝ }
     requires { ⌜ Inside (now s) d ⌝ }
-    ensures { λ r. ⌜ Holds (ratio (fraction (numeral-in (now (s .entry)) n) (digits-in (now (s .entry)) d))) r ⌝ }
+    ensures { λ r. ⌜ HoldsRatio (ratio (fraction (numeral-in (now (s .entry)) n) (digits-in (now (s .entry)) d))) r ⌝ }
 {
     let digits = n.digits;
     if !are_short(digits, d) {
@@ -107,7 +107,7 @@ fn fraction_ratio(s: &[u8], n: SignedDigits, d: Digits) -> Quotient
 // The ratio that a power is.
 pub fn power_ratio(s: &[u8], w: WrittenPower) -> Quotient
     requires { ⌜ PowerInside (now s) w ⌝ }
-    ensures { λ r. ⌜ Holds (ratio (written-in (now (s .entry)) w)) r ⌝ }
+    ensures { λ r. ⌜ HoldsRatio (ratio (written-in (now (s .entry)) w)) r ⌝ }
 {
     match w {
         WrittenPower::Unwritten => Quotient {

@@ -4,15 +4,15 @@ use native.Mathlib.Omega.{arith}
 use borrow.Author.Needs.{needs}
 use mathlib.Core.Path.{refl}
 use lib.ListN.{length}
-use Rattle.checks.proofs.Admitted.{Passed, admitted₁, admitted₂, admitted₃}
+use Rattle.checks.proofs.Admitted.{AdmittedBefore, admitted₁, admitted₂, admitted₃}
 use Rattle.checks.proofs.bytes.all_admitted.Statement.{statement}
 use Rattle.checks.proofs.bytes.all_admitted.Tie as tie
 use Rattle.checks.proofs.bytes.all_admitted.Reads as reads
 use Rattle.checks.proofs.bytes.all_admitted.Lts as lts
-use Rattle.scan.proofs.class.between.Reads as between-reads
+use Rattle.scan.proofs.class.within.Reads as within-reads
 
 abbrev Inv-loop : tie.InvT-loop
-Inv-loop s i₀ i = Passed s i
+Inv-loop s i₀ i = AdmittedBefore s i
 
 abbrev μ-loop : tie.MeasureT-loop
 μ-loop s i₀ i = length s - i
@@ -20,10 +20,10 @@ abbrev μ-loop : tie.MeasureT-loop
 loop-holds : tie.Need-loop-holds Inv-loop μ-loop
 loop-holds c = record { within = omega arith; is = refl }
 
-shared-slice-read-between : tie.Need-shared-slice-read-between Inv-loop μ-loop
-shared-slice-read-between c = search needs
+shared-slice-read-within : tie.Need-shared-slice-read-within Inv-loop μ-loop
+shared-slice-read-within c = search needs
 
-between-requires : tie.Need-between-requires Inv-loop μ-loop
+between-requires : tie.Need-within-requires Inv-loop μ-loop
 between-requires c κs = search needs
 
 returns : tie.Need-returns Inv-loop μ-loop
@@ -48,7 +48,7 @@ all-admitted-spec =
     Inv-loop
     μ-loop
     loop-holds
-    shared-slice-read-between
+    shared-slice-read-within
     between-requires
     returns
     add-i

@@ -8,7 +8,7 @@ use mir.Facts.{toZ-ofZ}
 use Rattle.label.specs.Reading.{base-in}
 use Rattle.descent.specs.Terms.{lent}
 use Rattle.content.specs.Views.{terms-in}
-use Rattle.content.specs.Sums.{Within, zeros}
+use Rattle.content.specs.Sums.{SumsWithin, zero-sums}
 use Rattle.content.proofs.TotalLaws.{Totals, no-totals, one-total, bound, zeros-within, summable, bound-more, dimensions-are}
 use borrow.Author.Needs.{needs}
 use Rattle.content.proofs.dimensions.dimensions.Statement.{statement}
@@ -16,7 +16,7 @@ use Rattle.content.proofs.dimensions.dimensions.Tie as tie
 
 abbrev Inv-loop : tie.InvT-loop
 Inv-loop count exponents names sums₀ bases powers i₀ sums i =
-    (i ≤ count) × (Within (bound i) sums × ((s p : List ℕ) → Totals base-in (terms-in s (lent p exponents) names i) (zeros 32) sums))
+    (i ≤ count) × (SumsWithin (bound i) sums × ((s p : List ℕ) → Totals base-in (terms-in s (lent p exponents) names i) (zero-sums 32) sums))
 
 abbrev μ-loop : tie.MeasureT-loop
 μ-loop count exponents names sums₀ bases powers i₀ sums i = count - i

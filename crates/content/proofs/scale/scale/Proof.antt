@@ -11,7 +11,7 @@ use Rattle.label.specs.Reading.{prime-in}
 use Rattle.symbols.specs.Slots.{prime-at}
 use Rattle.descent.specs.Terms.{lent}
 use Rattle.content.specs.Views.{terms-in}
-use Rattle.content.specs.Sums.{Within}
+use Rattle.content.specs.Sums.{SumsWithin}
 use Rattle.content.proofs.TotalLaws.{Totals, no-totals, one-total, bound, tens, tens-are, tens-within, summable, bound-more, scale-is}
 use borrow.Author.Needs.{needs}
 use Rattle.content.proofs.scale.scale.Statement.{statement}
@@ -19,7 +19,7 @@ use Rattle.content.proofs.scale.scale.Tie as tie
 
 abbrev Inv-loop : tie.InvT-loop
 Inv-loop count exponents names sums₀ prefixes primes tens₁ i₀ sums i =
-    (i ≤ count) × (Within (bound i) sums × ((s p : List ℕ) → Totals (λ b. prime-in (prime-at b)) (terms-in s (lent p exponents) names i) (tens (toZ w64 tens₁)) sums))
+    (i ≤ count) × (SumsWithin (bound i) sums × ((s p : List ℕ) → Totals (λ b. prime-in (prime-at b)) (terms-in s (lent p exponents) names i) (tens (toZ w64 tens₁)) sums))
 
 abbrev μ-loop : tie.MeasureT-loop
 μ-loop count exponents names sums₀ prefixes primes tens₁ i₀ sums i = count - i

@@ -10,7 +10,7 @@ passed c = rw (c .if1 .taken)
 
 left : tie.Need-returns-2
 unfolding unless
-left c = rw (c .before .if1 .left) (c .refused .ensures)
+left c = rw (c .before .if1 .left) (c .refuse-conversion .ensures)
 
 pub unless-spec : {M : Type 1} → statement M
 unless-spec =

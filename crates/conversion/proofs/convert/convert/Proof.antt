@@ -13,7 +13,7 @@ convert-spec =
     (λ c.
     let first = c .before .before .before in
     let start = first .before .before .before .before in
-    first-refused (first .read-sums .ensures) (start .args .second) (start .args .t .now) (c .before .if1 .taken) (c .refused .ensures))
+    first-refused (first .read-sums .ensures) (start .args .second) (start .args .t .now) (c .before .if1 .taken) (c .refuse-conversion .ensures))
     (λ c κs. search needs)
     (λ c κs. search needs)
     (λ c.
@@ -21,7 +21,7 @@ convert-spec =
     let accepted = second .before .before in
     let first = accepted .before .before in
     let start = first .before .before .before .before in
-    second-refused (first .read-sums .ensures) (start .args .second) (start .args .t .now) (accepted .if1 .left) (second .read-sums2 .ensures) (c .before .if2 .taken) (c .refused2 .ensures))
+    second-refused (first .read-sums .ensures) (start .args .second) (start .args .t .now) (accepted .if1 .left) (second .read-sums2 .ensures) (c .before .if2 .taken) (c .refuse-conversion2 .ensures))
     (λ c κs. search needs)
     (λ c κs.
     let known = c .before .before in

@@ -21,7 +21,7 @@ others c = let start = c .before .before .before .before .before .before .before
 difference-requires : tie.Need-difference-requires
 difference-requires c κs = omega (arith, twos c .room, fives (c .before .before) .room)
 
-given-requires : tie.Need-given-requires
+given-requires : tie.Need-gives-requires
 given-requires c κs = omega (arith, fives (c .before .before .before .before .before .before .before .before .before .before .before .before .before .before .before) .room)
 
 returns : tie.Need-returns
@@ -37,7 +37,7 @@ returns c =
     fraction-is (start .args .r) (twos ones₂) (threes ones₃) (fives ones₁) (others ones₄) (taken .difference .ensures)
     (above₃ .before .before .above .ensures) (above₃ .before .above2 .ensures) (above₃ .above3 .ensures) (below₃ .before .before .before .product .ensures)
     (below₃ .before .before .below .ensures) (below₃ .before .below2 .ensures) (below₃ .below3 .ensures) (c .before .product2 .ensures)
-    (c .given .ensures)
+    (c .gives .ensures)
 
 pub fraction-spec : {M : Type 1} → statement M
 fraction-spec =

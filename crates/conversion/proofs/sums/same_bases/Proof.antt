@@ -2,12 +2,12 @@
 use Prim.Native.Nat.{_-_}
 use native.Mathlib.Omega.{arith}
 use borrow.Author.Needs.{needs}
-use Rattle.conversion.proofs.Summing.{Comparing, comparing₀, comparing-more, comparing-differs, comparing-done}
+use Rattle.conversion.proofs.Summing.{ComparingSums, comparing₀, comparing-more, comparing-differs, comparing-done}
 use Rattle.conversion.proofs.sums.same_bases.Statement.{statement}
 use Rattle.conversion.proofs.sums.same_bases.Tie as tie
 
 abbrev Inv-loop : tie.InvT-loop
-Inv-loop first second i₀ i = Comparing first second i
+Inv-loop first second i₀ i = ComparingSums first second i
 
 abbrev μ-loop : tie.MeasureT-loop
 μ-loop first second i₀ i = 32 - i

@@ -17,7 +17,7 @@ use Rattle.descent.proofs.descent.+read_group+read_item+read_product.Lt
 use Rattle.descent.proofs.descent.read_product.Reads as read-product
 use Rattle.descent.proofs.descent.read_product.Kinds as read-product-kinds
 use Rattle.descent.proofs.descent.+read_group+read_item+read_product.Lts-read_product as product
-use Rattle.descent.proofs.descent.unit.Reads as unit-reads
+use Rattle.descent.proofs.descent.read_unit.Reads as read-unit-reads
 use Rattle.descent.proofs.joint.join_at.Reads as join-at-reads
 use Rattle.descent.proofs.joint.last_slash.Reads as last-slash-reads
 use Rattle.descent.proofs.joint.leading_slash.Reads as leading-slash-reads
@@ -64,7 +64,7 @@ abbrev group-calls : ℕ → group.Claims
 group-calls t = (product-below t, read-product.Post, closes-reads.Asked, closes-reads.Learnt)
 
 abbrev item-calls : ℕ → item.Claims
-item-calls t = (byte-at-reads.Asked, byte-at-reads.Learnt, group-below t, read-group.Post, unit-reads.Asked, unit-reads.Learnt)
+item-calls t = (byte-at-reads.Asked, byte-at-reads.Learnt, group-below t, read-group.Post, read-unit-reads.Asked, read-unit-reads.Learnt)
 
 abbrev product-calls : ℕ → product.Claims
 product-calls t = (

@@ -7,13 +7,13 @@ use Rattle.lines.proofs.Feeding.{due₀, due-more, step-moves}
 use lib.ListN.{length}
 use borrow.Author.Needs.{needs}
 use Rattle.lines.specs.declared.input.Fed.{Fed}
-use Rattle.lines.specs.Feeding.{Due, chunk-used, buffer-full}
+use Rattle.lines.specs.Feeding.{OutputDue, chunk-used, buffer-full}
 use Rattle.lines.proofs.input.feed.Statement.{statement}
 use Rattle.lines.proofs.input.feed.Tie as tie
 
 abbrev Inv-loop : tie.InvT-loop
 Inv-loop chunk line₀ kept out₀ used₀ kept₀ written₀ line out used kept' written =
-    (length out ≡ length out₀) × (0 < written → 0 < used) × Due chunk line₀ kept line out (record { used = used; kept = kept'; written = written })
+    (length out ≡ length out₀) × (0 < written → 0 < used) × OutputDue chunk line₀ kept line out (record { used = used; kept = kept'; written = written })
 
 abbrev μ-loop : tie.MeasureT-loop
 μ-loop chunk line₀ kept out₀ used₀ kept₀ written₀ line out used kept' written = length chunk - used

@@ -8,17 +8,17 @@ use Rattle.lines.proofs.input.step.Tie as tie
 find-requires : tie.Need-find-requires
 find-requires c κs = search needs
 
-sub-keep : tie.Need-sub-keep
-sub-keep c = search needs
+sub-keep-bytes : tie.Need-sub-keep-bytes
+sub-keep-bytes c = search needs
 
-part-keep-start : tie.Need-part-keep-start
-part-keep-start c = search needs
+part-keep-bytes-start : tie.Need-part-keep-bytes-start
+part-keep-bytes-start c = search needs
 
-part-keep-end : tie.Need-part-keep-end
-part-keep-end c = search needs
+part-keep-bytes-end : tie.Need-part-keep-bytes-end
+part-keep-bytes-end c = search needs
 
-keep-requires : tie.Need-keep-requires
-keep-requires c κs = search needs
+keep-bytes-requires : tie.Need-keep-bytes-requires
+keep-bytes-requires c κs = search needs
 
 same-length : tie.Need-same-length
 same-length c = search needs
@@ -27,7 +27,7 @@ returns : tie.Need-returns
 returns c =
     let x = c .before .before .before .before .before .before .before .before .before .before .args in
     let found = c .before .before .before .before .before .before .find in
-    let keeps = c .before .before .before .keep in
+    let keeps = c .before .before .before .keep-bytes in
     step-on (x .chunk .now) (x .line .now) (keeps .last .1 .0) (x .kept) (found .result) (keeps .result) (found .ensures .0) (keeps .ensures) (x .out .now) (omega arith) (found .ensures .1)
 
 sub-put-line : tie.Need-sub-put-line
@@ -55,7 +55,7 @@ returns-2 : tie.Need-returns-2
 returns-2 c =
     let x = c .before .before .before .before .before .before .before .before .before .before .before .before .before .before .before .before .args in
     let found = c .before .before .before .before .before .before .before .before .before .before .before .before .find in
-    let keeps = c .before .before .before .before .before .before .before .before .before .keep in
+    let keeps = c .before .before .before .before .before .before .before .before .before .keep-bytes in
     let put = c .before .before .put-line in
     step-ends (x .chunk .now) (x .line .now) (keeps .last .1 .0) (x .kept) (found .result) (keeps .result) (found .ensures .0) (keeps .ensures) (x .out .now) (put .last .1 .0) (put .result) (omega arith) (put .kept .1 .0) (put .ensures)
 
@@ -64,10 +64,10 @@ step-spec =
     tie.close
     (tie.spec
     find-requires
-    sub-keep
-    part-keep-start
-    part-keep-end
-    keep-requires
+    sub-keep-bytes
+    part-keep-bytes-start
+    part-keep-bytes-end
+    keep-bytes-requires
     same-length
     returns
     sub-put-line

@@ -2,17 +2,17 @@
 use Prim.Native.Nat.{_-_}
 use native.Mathlib.Omega.{arith}
 use Rattle.label.specs.Rows.{named}
-use Rattle.symbols.specs.Sets.{room}
-use Rattle.notations.proofs.NameLaws.{Searching, search-start, search-all, search-hit, search-miss, too-long}
+use Rattle.symbols.specs.Sets.{most-notations}
+use Rattle.notations.proofs.NameLaws.{SearchingNotations, search-start, search-all, search-hit, search-miss, too-long}
 use borrow.Author.Needs.{needs}
 use Rattle.notations.proofs.rows.notation_named.Statement.{statement}
 use Rattle.notations.proofs.rows.notation_named.Tie as tie
 
 abbrev Inv-loop : tie.InvT-loop
-Inv-loop name size number sizes keys i₀ i = Searching name size number i
+Inv-loop name size number sizes keys i₀ i = SearchingNotations name size number i
 
 abbrev μ-loop : tie.MeasureT-loop
-μ-loop name size number sizes keys i₀ i = room - i
+μ-loop name size number sizes keys i₀ i = most-notations - i
 
 returns : tie.Need-returns Inv-loop μ-loop
 returns c = too-long _ (c .if1 .taken)
@@ -20,10 +20,10 @@ returns c = too-long _ (c .if1 .taken)
 key-requires : tie.Need-key-requires Inv-loop μ-loop
 key-requires c κs = search needs
 
-name-sizes-requires : tie.Need-name-sizes-requires Inv-loop μ-loop
+name-sizes-requires : tie.Need-notation-sizes-requires Inv-loop μ-loop
 name-sizes-requires c κs = search needs
 
-name-keys-requires : tie.Need-name-keys-requires Inv-loop μ-loop
+name-keys-requires : tie.Need-notation-keys-requires Inv-loop μ-loop
 name-keys-requires c κs = search needs
 
 loop-holds : tie.Need-loop-holds Inv-loop μ-loop
@@ -53,7 +53,7 @@ add-result c = omega arith
 returns-2 : tie.Need-returns-2 Inv-loop μ-loop
 unfolding named
 returns-2 c =
-    search-hit (c .before .before .before .loop .inv) (c .before .before .loop-test .taken) (rw (c .before .before .before .before .before .name-sizes .ensures, c .before .before .before .before .name-keys .ensures) at (c .before .same-symbol .ensures)) (c .if2 .taken)
+    search-hit (c .before .before .before .loop .inv) (c .before .before .loop-test .taken) (rw (c .before .before .before .before .before .notation-sizes .ensures, c .before .before .before .before .notation-keys .ensures) at (c .before .same-symbol .ensures)) (c .if2 .taken)
 
 add-i : tie.Need-add-i Inv-loop μ-loop
 add-i c = omega arith
@@ -64,7 +64,7 @@ loop-less c = omega arith
 loop-again : tie.Need-loop-again Inv-loop μ-loop
 unfolding named
 loop-again c =
-    search-miss (c .before .before .before .loop .inv) (c .before .before .loop-test .taken) (rw (c .before .before .before .before .before .name-sizes .ensures, c .before .before .before .before .name-keys .ensures) at (c .before .same-symbol .ensures)) (c .if2 .left)
+    search-miss (c .before .before .before .loop .inv) (c .before .before .loop-test .taken) (rw (c .before .before .before .before .before .notation-sizes .ensures, c .before .before .before .before .notation-keys .ensures) at (c .before .same-symbol .ensures)) (c .if2 .left)
 
 returns-3 : tie.Need-returns-3 Inv-loop μ-loop
 unfolding named

@@ -2,12 +2,12 @@
 use Prim.Native.Nat.{_-_}
 use native.Mathlib.Omega.{arith}
 use borrow.Author.Needs.{needs}
-use Rattle.rewriting.proofs.LetterLaws.{Comparing, compare-start, compare-longer, compare-all, compare-differ, compare-more}
+use Rattle.rewriting.proofs.LetterLaws.{ComparingLetters, compare-start, compare-longer, compare-all, compare-differ, compare-more}
 use Rattle.rewriting.proofs.letters.same_letters.Statement.{statement}
 use Rattle.rewriting.proofs.letters.same_letters.Tie as tie
 
 abbrev Inv-loop : tie.InvT-loop
-Inv-loop s start end t from to i₀ j₀ i j = Comparing s start end t from to i j
+Inv-loop s start end t from to i₀ j₀ i j = ComparingLetters s start end t from to i j
 
 abbrev μ-loop : tie.MeasureT-loop
 μ-loop s start end t from to i₀ j₀ i j = end - i

@@ -4,19 +4,19 @@ use mathlib.Core.Bool.{Bool, true, false}
 use mathlib.Core.List.{[], _∷_}
 use mathlib.Core.Option.{some}
 use Rattle.label.specs.Bytes.{plus, minus}
-use Rattle.label.specs.Writing.{sign}
+use Rattle.label.specs.Writing.{sign-text}
 use borrow.Author.Needs.{needs}
 use Rattle.rewriting.proofs.TextLaws.{writes-nothing, writes-as}
 use Rattle.rewriting.proofs.numbers.push_sign.Statement.{statement}
 use Rattle.rewriting.proofs.numbers.push_sign.Tie as tie
 
-minused : (p n : Bool) → n ≡ true → some (sign p n) ≡ some (minus ∷ [])
+minused : (p n : Bool) → n ≡ true → some (sign-text p n) ≡ some (minus ∷ [])
 minused p n e = rw e
 
-plussed : (p n : Bool) → n ≡ false → p ≡ true → some (sign p n) ≡ some (plus ∷ [])
+plussed : (p n : Bool) → n ≡ false → p ≡ true → some (sign-text p n) ≡ some (plus ∷ [])
 plussed p n e f = rw (e, f)
 
-unsigned : (p n : Bool) → n ≡ false → p ≡ false → some (sign p n) ≡ some []
+unsigned : (p n : Bool) → n ≡ false → p ≡ false → some (sign-text p n) ≡ some []
 unsigned p n e f = rw (e, f)
 
 pub push-sign-spec : {M : Type 1} → statement M

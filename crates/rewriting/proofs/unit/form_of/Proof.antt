@@ -3,12 +3,12 @@ use native.Mathlib.Omega.{arith}
 use borrow.Author.Needs.{needs}
 use Rattle.notations.specs.Styles.{style-in}
 use Rattle.rewriting.specs.Forms.{form-text}
-use Rattle.rewriting.proofs.UnitTexts.{Plain, plain-in, plain-held, unnamed-plain, reads-plain, reads-other, reads-quoted, reads-not, no-form-in}
+use Rattle.rewriting.proofs.UnitTexts.{UnquotedText, plain-in, plain-held, unnamed-plain, reads-plain, reads-other, reads-quoted, reads-not, no-form-in}
 use Rattle.rewriting.proofs.unit.form_of.Statement.{statement}
 use Rattle.rewriting.proofs.unit.form_of.Tie as tie
 
 -- what the array holds of the form without quotes
-plain : (c : tie.After-push-form) → Plain (c .push-form .last .0) (c .push-form .result) (form-text (c .before .before .before .before .before .before .before .before .before .args .s .now) (c .before .before .before .before .plain-form .result))
+plain : (c : tie.After-push-form) → UnquotedText (c .push-form .last .0) (c .push-form .result) (form-text (c .before .before .before .before .before .before .before .before .before .args .s .now) (c .before .before .before .before .plain-form .result))
 plain c = plain-held (c .before .before .before .before .plain-form .ensures) (c .before .before .before .before .before .before .before .before .before .pre .1 .0) (c .before .before .before .before .before .before .before .before .before .pre .1 .1) (c .before .before .if1 .left) (c .push-form .ensures)
 
 returns : tie.Need-returns

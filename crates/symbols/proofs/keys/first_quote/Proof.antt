@@ -1,12 +1,12 @@
 -- `symbols::keys::first_quote` meets its contract: each turn of the loop is one of `Quotes`.
 use Prim.Native.Nat.{_-_}
 use native.Mathlib.Omega.{arith}
-use Rattle.symbols.proofs.Quotes.{Passed, passed-none, passed-more, stopped, ended}
+use Rattle.symbols.proofs.Quotes.{UnquotedBefore, passed-none, passed-more, stopped, ended}
 use Rattle.symbols.proofs.keys.first_quote.Statement.{statement}
 use Rattle.symbols.proofs.keys.first_quote.Tie as tie
 
 abbrev Inv-loop : tie.InvT-loop
-Inv-loop s start end i₀ i = Passed s start end i
+Inv-loop s start end i₀ i = UnquotedBefore s start end i
 
 abbrev μ-loop : tie.MeasureT-loop
 μ-loop s start end i₀ i = end - i

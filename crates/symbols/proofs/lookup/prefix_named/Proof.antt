@@ -6,12 +6,12 @@ use Rattle.label.specs.Ranges.{between}
 use Rattle.label.proofs.Between.{length-between}
 use Rattle.symbols.specs.Columns.{prefix-count}
 use Rattle.symbols.proofs.KeyLaws.{spelled-part}
-use Rattle.symbols.proofs.PrefixLaws.{Searching, search-none, search-hit, search-miss, search-all, too-long, codes-count}
+use Rattle.symbols.proofs.PrefixLaws.{SearchingPrefixes, search-none, search-hit, search-miss, search-all, too-long, codes-count}
 use Rattle.symbols.proofs.lookup.prefix_named.Statement.{statement}
 use Rattle.symbols.proofs.lookup.prefix_named.Tie as tie
 
 abbrev Inv-loop : tie.InvT-loop
-Inv-loop prefixes s start end size number i₀ i = Searching prefixes (between s start end) size number i
+Inv-loop prefixes s start end size number i₀ i = SearchingPrefixes prefixes (between s start end) size number i
 
 abbrev μ-loop : tie.MeasureT-loop
 μ-loop prefixes s start end size number i₀ i = prefix-count - i

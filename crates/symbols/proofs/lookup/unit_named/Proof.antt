@@ -6,13 +6,13 @@ use Rattle.label.specs.Ranges.{between}
 use Rattle.label.proofs.Between.{length-between}
 use Rattle.symbols.specs.Columns.{name-count}
 use Rattle.symbols.proofs.KeyLaws.{spelled-part}
-use Rattle.symbols.proofs.NameLaws.{Searching, search-start, search-hit, search-miss, search-all, too-long, unit-room}
+use Rattle.symbols.proofs.NameLaws.{SearchingNames, search-start, search-hit, search-miss, search-all, too-long, unit-room}
 use Rattle.symbols.proofs.NameLaws.{key-column-count, code-column-count}
 use Rattle.symbols.proofs.lookup.unit_named.Statement.{statement}
 use Rattle.symbols.proofs.lookup.unit_named.Tie as tie
 
 abbrev Inv-loop : tie.InvT-loop
-Inv-loop keys codes n s start end size number i₀ i = Searching keys codes n (between s start end) size number i
+Inv-loop keys codes n s start end size number i₀ i = SearchingNames keys codes n (between s start end) size number i
 
 abbrev μ-loop : tie.MeasureT-loop
 μ-loop keys codes n s start end size number i₀ i = name-count - i

@@ -2,12 +2,12 @@
 use Prim.Native.Nat.{_-_}
 use native.Mathlib.Omega.{arith}
 use borrow.Author.Needs.{needs}
-use Rattle.values.proofs.Numbers.{Passed, passed-none, passed-more, passed-size, passed-room, passed-end}
+use Rattle.values.proofs.Numbers.{NumberBefore, passed-none, passed-more, passed-size, passed-room, passed-end}
 use Rattle.values.proofs.digits.number_from.Statement.{statement}
 use Rattle.values.proofs.digits.number_from.Tie as tie
 
 abbrev Inv-loop : tie.InvT-loop
-Inv-loop s n end i₀ value₀ i value = Passed s n i₀ end i value
+Inv-loop s n end i₀ value₀ i value = NumberBefore s n i₀ end i value
 
 abbrev μ-loop : tie.MeasureT-loop
 μ-loop s n end i₀ value₀ i value = end - i

@@ -19,7 +19,7 @@ ten-to-requires c κs = let a = c .before .before .before .before in subst (λ (
 enum-known-f-2 : tie.Need-enum-known-f-2
 enum-known-f-2 c = search needs
 
-bounded-requires : tie.Need-bounded-requires
+bounded-requires : tie.Need-signed-tens-requires
 bounded-requires c κs = search needs
 
 returns : tie.Need-returns
@@ -31,7 +31,7 @@ returns-2 c = (rw (c .before .before .f .given .1) (c .ten-to .ensures .0), c .t
 
 returns-3 : tie.Need-returns-3
 unfolding k-of
-returns-3 c = (rw (c .before .before .f2 .given .1) (c .bounded .ensures .0), c .bounded .ensures .1)
+returns-3 c = (rw (c .before .before .f2 .given .1) (c .signed-tens .ensures .0), c .signed-tens .ensures .1)
 
 pub factor-spec : {M : Type 1} → statement M
 factor-spec =

@@ -20,10 +20,10 @@ number-requires : tie.Need-number-requires
 number-requires c κs =
     (c .before .before .before .before .pre, leb-true _ 4 (sym (c .before .is-short .ensures) ∙ not-false _ (c .if1 .left)))
 
-cast-bounded : tie.Need-cast-bounded
-cast-bounded c = search needs
+cast-signed-tens : tie.Need-cast-signed-tens
+cast-signed-tens c = search needs
 
-bounded-requires : tie.Need-bounded-requires
+bounded-requires : tie.Need-signed-tens-requires
 bounded-requires c κs = search needs
 
 returns-2 : tie.Need-returns-2
@@ -31,9 +31,9 @@ unfolding k-of
 returns-2 c =
     let s = c .before .before .before .before .before .before in
     let e = short-in (s .args .s .now) (s .args .n .digits) (s .pre) ∙ sym (c .before .before .before .is-short .ensures) ∙ not-false _ (c .before .before .if1 .left) in
-    (rw (e, ← c .before .number .ensures .0) (c .bounded .ensures .0), c .bounded .ensures .1)
+    (rw (e, ← c .before .number .ensures .0) (c .signed-tens .ensures .0), c .signed-tens .ensures .1)
 
 pub ten-to-spec : {M : Type 1} → statement M
 ten-to-spec =
     tie.close
-    (tie.spec is-short-requires returns number-requires cast-bounded bounded-requires returns-2)
+    (tie.spec is-short-requires returns number-requires cast-signed-tens bounded-requires returns-2)

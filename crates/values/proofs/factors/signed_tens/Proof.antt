@@ -1,4 +1,4 @@
--- `values::factors::bounded` meets its contract: k is given exactly if it is at most 99.
+-- `values::factors::signed_tens` meets its contract: k is given exactly if it is at most 99.
 use borrow.Author.Needs.{needs}
 use borrow.Author.Tests.{le-leb, lt-leb}
 use mathlib.Core.Path.{refl, sym, ap}
@@ -8,8 +8,8 @@ use native.Mathlib.Omega.{arith}
 use Rattle.label.proofs.Basics.{false-true}
 use Rattle.label.specs.declared.Tens.{Tens}
 use Rattle.values.proofs.SignedNumbers.{told}
-use Rattle.values.proofs.factors.bounded.Statement.{statement}
-use Rattle.values.proofs.factors.bounded.Tie as tie
+use Rattle.values.proofs.factors.signed_tens.Statement.{statement}
+use Rattle.values.proofs.factors.signed_tens.Tie as tie
 
 abbrev tens : ℤ → Tens
 tens z = record { 0 = z }
@@ -29,5 +29,5 @@ returns-2 c =
     let h = c .before .if1 .left in
     (rw (le-leb (a .k) 99 h) (ap (λ (z : ℤ). some (tens z)) (told _ (a .negative) (a .k) (omega arith) (c .signed .ensures))), λ e. absurd (false-true (sym e)))
 
-pub bounded-spec : {M : Type 1} → statement M
-bounded-spec = tie.close (tie.spec returns cast-signed signed-requires returns-2)
+pub signed-tens-spec : {M : Type 1} → statement M
+signed-tens-spec = tie.close (tie.spec returns cast-signed signed-requires returns-2)

@@ -1,11 +1,11 @@
 use native.Mathlib.Omega.{arith}
 use Rattle.descent.proofs.StepLaws.{unit-unspelled, unit-unpowered, unit-read}
 use borrow.Author.Needs.{needs}
-use Rattle.descent.proofs.descent.unit.Statement.{statement}
-use Rattle.descent.proofs.descent.unit.Tie as tie
+use Rattle.descent.proofs.descent.read_unit.Statement.{statement}
+use Rattle.descent.proofs.descent.read_unit.Tie as tie
 
-pub unit-spec : {M : Type 1} → statement M
-unit-spec =
+pub read-unit-spec : {M : Type 1} → statement M
+read-unit-spec =
     tie.close
     (tie.spec
     (λ c κs. search needs)
@@ -21,4 +21,4 @@ unit-spec =
     let e = c .before .before .before .before in
     let p = e .before .before .before in
     let w = p .before .before .before in
-    unit-read (w .spelling-at .ensures) (p .before .if1 .left) (p .power-after .ensures) {m = e .exponent .result} (w .before .before .pre) (e .before .if2 .left) (e .exponent .ensures .0) (c .keep .ensures)))
+    unit-read (w .spelling-at .ensures) (p .before .if1 .left) (p .power-after .ensures) {m = e .exponent-of .result} (w .before .before .pre) (e .before .if2 .left) (e .exponent-of .ensures .0) (c .keep .ensures)))

@@ -1,16 +1,16 @@
--- `content::sums::plus` meets its contract: the product and the sum fit 64 bits.
+-- `content::sums::add_power` meets its contract: the product and the sum fit 64 bits.
 use native.Mathlib.Omega.{arith}
 use mir.Syntax.{w32}
 use mir.Val.{SFits}
 use Rattle.content.proofs.Integers.{widened, product-fits, sum-fits, sum-held}
-use Rattle.content.proofs.sums.plus.Statement.{statement}
-use Rattle.content.proofs.sums.plus.Tie as tie
+use Rattle.content.proofs.sums.add_power.Statement.{statement}
+use Rattle.content.proofs.sums.add_power.Tie as tie
 
 exponent-fits : (c : tie.After-struct-told) → SFits w32 (c .before .args .exponent .0)
 exponent-fits c = record { sfits = omega arith }
 
-pub plus-spec : {M : Type 1} → statement M
-plus-spec =
+pub add-power-spec : {M : Type 1} → statement M
+add-power-spec =
     tie.close
     (tie.spec
     (λ c. widened (c .before .fits .power))

@@ -1,4 +1,4 @@
--- `lines::input::keep` meets its contract: a line that is too long, bytes for which there is no room, and all bytes.
+-- `lines::input::keep_bytes` meets its contract: a line that is too long, bytes for which there is no room, and all bytes.
 use Prim.Native.Nat.{_-_}
 use native.Mathlib.Omega.{arith}
 use mathlib.Core.Path.{_≡_, refl}
@@ -7,8 +7,8 @@ use lib.Seq.{length-take-le}
 use Rattle.lines.specs.Feeding.{most-kept}
 use Rattle.lines.proofs.Keeping.{keeps-none, keeps-some, keeps-all}
 use borrow.Author.Needs.{needs}
-use Rattle.lines.proofs.input.keep.Statement.{statement}
-use Rattle.lines.proofs.input.keep.Tie as tie
+use Rattle.lines.proofs.input.keep_bytes.Statement.{statement}
+use Rattle.lines.proofs.input.keep_bytes.Tie as tie
 
 returns : tie.Need-returns
 returns c = let x = c .before .before .before .args in keeps-none (x .bytes .now) (x .line .now) (x .kept) (omega arith) (omega arith)
@@ -71,8 +71,8 @@ returns-3 c =
     let copied = c .before .before .copy2 in
     keeps-all (x .line .now) (copied .last .1 .0) (x .bytes .now) (x .kept) (omega arith) (omega arith) (copied .ensures .1)
 
-pub keep-spec : {M : Type 1} → statement M
-keep-spec =
+pub keep-bytes-spec : {M : Type 1} → statement M
+keep-bytes-spec =
     tie.close
     (tie.spec
     returns

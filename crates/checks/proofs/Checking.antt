@@ -27,9 +27,9 @@ use Rattle.values.specs.Given.{given}
 use Rattle.descent.specs.declared.whole.LabelRead.{LabelRead}
 use Rattle.descent.specs.Terms.{Lent, count, broken, missing, HoldsUnits}
 use Rattle.descent.specs.Labels.{parsed-by, ReadsLabel}
+use Rattle.notations.proofs.Numbers.{in-range}
 use Rattle.checks.specs.declared.check.Checked.{Checked}
 use Rattle.checks.specs.Checks.{due, units-in, checked-by, Rejects, ChecksValues, Checks}
-use Rattle.notations.proofs.Numbers.{in-range}
 
 rejects : {i : ℕ} {r : Checked} → Rejects i r → (k : Tens) (us : List Placed) → checked-by (r .ok) (r .number) k us ≡ refuse i
 rejects w k us = rw (w .refused, w .number)
@@ -96,12 +96,12 @@ module _ (f : MaybeTens) (s : List ℕ) (w : WrittenFactor) (n m : ℕ) (q : giv
       values₃ g = refusing refl (λ ps c b. rw (with-k ps) (deep-units s (f .k) (valued-units ps) (sym b ∙ z) g))
 
       module _ (g : deepest s ≤ most-brackets) where
-        values₄ : 32 < n → ChecksValues s w n m (with-number 7)
+        values₄ : most-terms < n → ChecksValues s w n m (with-number 7)
         values₄ l = refusing refl (λ ps c b. (
             let v = there (valued-units ps) (sym b ∙ z) in
             rw (with-k ps, v .1) (many-units s (f .k) (v .0) g (omega (arith, as-many ps (v .0) (v .1))))))
 
-        values₅ : n ≤ 32 → ChecksValues s w n m (with-number 0)
+        values₅ : n ≤ most-terms → ChecksValues s w n m (with-number 0)
         values₅ l = record { is = accepts; few = λ _. l }
           where
             accepts : (x : Lent) (ps : List Part) → count x ≡ n → broken x ≡ m → HoldsUnits s x ps
@@ -114,17 +114,17 @@ module _ (f : MaybeTens) (s : List ℕ) (w : WrittenFactor) (n m : ℕ) (q : giv
   abbrev first-due : Bool → Bool → Bool → Bool → ℕ
   first-due ten whole shallow few = due ten 5 (due whole 5 (due shallow 6 (due few 7 0)))
 
-  by-tests : (ten whole shallow few : Bool) → f .ok ≡ ten → eqb m 0 ≡ whole → leb (deepest s) 8 ≡ shallow → leb n 32 ≡ few
+  by-tests : (ten whole shallow few : Bool) → f .ok ≡ ten → eqb m 0 ≡ whole → leb (deepest s) most-brackets ≡ shallow → leb n most-terms ≡ few
       → ChecksValues s w n m (with-number (first-due ten whole shallow few))
   by-tests false whole shallow few t b d l = values₁ t
   by-tests true false shallow few t b d l = values₂ t (eqb-false m 0 b)
-  by-tests true true false few t b d l = values₃ t (eqb-true m 0 b) (leb-false (deepest s) 8 d)
-  by-tests true true true false t b d l = values₄ t (eqb-true m 0 b) (leb-true (deepest s) 8 d) (leb-false n 32 l)
-  by-tests true true true true t b d l = values₅ t (eqb-true m 0 b) (leb-true (deepest s) 8 d) (leb-true n 32 l)
+  by-tests true true false few t b d l = values₃ t (eqb-true m 0 b) (leb-false (deepest s) most-brackets d)
+  by-tests true true true false t b d l = values₄ t (eqb-true m 0 b) (leb-true (deepest s) most-brackets d) (leb-false n most-terms l)
+  by-tests true true true true t b d l = values₅ t (eqb-true m 0 b) (leb-true (deepest s) most-brackets d) (leb-true n most-terms l)
 
-  pub values-checked : {x i₄ i₃ i₂ i₁ : ℕ} → x ≡ deepest s → i₄ ≡ due (leb n 32) 7 0 → i₃ ≡ due (leb x 8) 6 i₄
+  pub values-checked : {x i₄ i₃ i₂ i₁ : ℕ} → x ≡ deepest s → i₄ ≡ due (leb n most-terms) 7 0 → i₃ ≡ due (leb x most-brackets) 6 i₄
       → i₂ ≡ due (eqb m 0) 5 i₃ → i₁ ≡ due (f .ok) 5 i₂ → ChecksValues s w n m (with-number i₁)
-  values-checked e e₄ e₃ e₂ e₁ = rw (e₁, e₂, e₃, e₄, e) (by-tests (f .ok) (eqb m 0) (leb (deepest s) 8) (leb n 32) refl refl refl refl)
+  values-checked e e₄ e₃ e₂ e₁ = rw (e₁, e₂, e₃, e₄, e) (by-tests (f .ok) (eqb m 0) (leb (deepest s) most-brackets) (leb n most-terms) refl refl refl refl)
 
 -- THE WHOLE LABEL
 

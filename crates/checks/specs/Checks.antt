@@ -11,6 +11,7 @@ use Rattle.label.specs.Ranges.{factor-in}
 use Rattle.label.specs.Split.{Placed, valued}
 use Rattle.label.specs.Reading.{refuse, accept, check-values, checked}
 use Rattle.label.specs.Reading as spec
+use Rattle.label.specs.Limits.{most-terms, most-bytes}
 use Rattle.descent.specs.Terms.{Lent, count, broken, terms, placed-in, AllIn, HoldsUnits}
 use Rattle.checks.specs.declared.check.Checked.{Checked}
 
@@ -36,12 +37,12 @@ pub record Rejects (i : ℕ) (r : Checked) : Type 0 where
 pub record ChecksValues (s : List ℕ) (w : WrittenFactor) (n m : ℕ) (r : Checked) : Type 0 where
   pub is : (t : Lent) (ps : List Part) → count t ≡ n → broken t ≡ m → HoldsUnits s t ps
       → check-values s (valued (factor-in s w) ps) ≡ checked-by (r .ok) (r .number) (r .k) (units-in s t)
-  pub few : r .ok ≡ true → n ≤ 32
+  pub few : r .ok ≡ true → n ≤ most-terms
 
 -- the terms t are the label's where it is accepted
 pub record Checks (n : ℕ) (s : List ℕ) (t : Lent) (r : Checked) : Type 0 where
   pub is : checked n s ≡ checked-by (r .ok) (r .number) (r .k) (units-in s t)
-  pub small : r .ok ≡ true → n ≤ 255
-  pub short : r .ok ≡ true → length s ≤ 255
-  pub few : r .ok ≡ true → count t ≤ 32
+  pub small : r .ok ≡ true → n ≤ most-bytes
+  pub short : r .ok ≡ true → length s ≤ most-bytes
+  pub few : r .ok ≡ true → count t ≤ most-terms
   pub inside : r .ok ≡ true → AllIn s (terms t (count t))

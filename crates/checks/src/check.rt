@@ -1,6 +1,11 @@
 // The limits and the grammar: refusals 1 to 7, or the label's values.
 use crate::bytes::all_admitted;
+use descent::terms::BROKEN;
+use descent::terms::COUNT;
+use descent::terms::PLACES;
 use descent::whole::read_label;
+use label::MOST_BYTES;
+use label::MOST_TERMS;
 use label::Tens;
 use label::WrittenFactor;
 use notations::rows::is_notation;
@@ -50,7 +55,7 @@ pub fn check_values(s: &[u8], written: WrittenFactor, count: usize, broken: usiz
     let ten = f.ok;
     let whole = broken == 0;
     let shallow = deepest(s) <= 8;
-    let few = count <= 32;
+    let few = count <= MOST_TERMS;
     let number = due(ten, 5, due(whole, 5, due(shallow, 6, due(few, 7, 0))));
     let k = f.k;
     Checked {
@@ -61,14 +66,19 @@ pub fn check_values(s: &[u8], written: WrittenFactor, count: usize, broken: usiz
 }
 
 // Refusals 1 to 7.
-pub fn check(n: u32, s: &[u8], places: &mut [usize; 66], exponents: &mut [i32; 32]) -> Checked
+pub fn check(
+    n: u32,
+    s: &[u8],
+    places: &mut [usize; PLACES],
+    exponents: &mut [i32; MOST_TERMS],
+) -> Checked
     requires { ⌜ NoTerms (lent (now places) (now exponents)) ⌝ }
     ensures { λ r. ⌜ Checks n (now (s .entry)) (lent (now (places .exit)) (now (exponents .exit))) r ⌝ }
 {
     if !is_notation(n) {
         return rejected(1);
     }
-    if s.len() > 255 {
+    if s.len() > MOST_BYTES {
         return rejected(2);
     }
     if !all_admitted(s) {
@@ -79,5 +89,5 @@ pub fn check(n: u32, s: &[u8], places: &mut [usize; 66], exponents: &mut [i32; 3
         return rejected(4);
     }
     let written = o.factor;
-    check_values(s, written, places[64], places[65])
+    check_values(s, written, places[COUNT], places[BROKEN])
 }

@@ -15,12 +15,13 @@ use Rattle.label.specs.Reading as spec
 use Rattle.label.specs.Symbols.{Symbol, symbol, known, unknown}
 use Rattle.label.specs.Ranges.{between}
 use Rattle.label.proofs.Between.{length-between}
+use Rattle.label.specs.Limits.{most-terms}
 use Rattle.symbols.specs.declared.SymbolAt.{SymbolAt}
 use Rattle.symbols.specs.Views.{place, symbol-in, BoundedSymbol, LettersAt}
-use Rattle.descent.specs.Terms.{Lent, count, term-at, terms, placed-in, InLabel, AllIn}
+use Rattle.descent.specs.Terms.{Lent, count, term-at, terms, placed-in, InLabel, AllIn, start-at, end-at}
 use Rattle.descent.specs.Terms as held
 use Rattle.descent.proofs.TermSteps.{terms-next}
-use Rattle.content.specs.Views.{by-code, symbol-at, term-in, terms-in}
+use Rattle.content.specs.Views.{by-code, symbol-at, term-in, terms-in, prefix-at, unit-in, letters-at, letters-end, names-size}
 use Rattle.content.specs.Named.{unit-code, Short, NotedAt, SameAt, Noted, Nameable, LettersIn, NoLetters, AllNamed}
 
 -- ONE SYMBOL
@@ -37,7 +38,7 @@ module _ (x : List ℕ) (i p u a z : ℕ) where
       ∙ getD-set-other (set x i p) (32 + i) j u 0 f
       ∙ getD-set-other x i j p 0 e
 
-  four-same : i < 32 → (j : ℕ) → j < i → SameAt x (four x i p u a z) j
+  four-same : i < most-terms → (j : ℕ) → j < i → SameAt x (four x i p u a z) j
   four-same h j l = record {
     prefix = four-other j (λ e. omega arith) (λ e. omega arith) (λ e. omega arith) (λ e. omega arith);
     unit = four-other (32 + j) (λ e. omega arith) (λ e. omega arith) (λ e. omega arith) (λ e. omega arith);
@@ -45,7 +46,7 @@ module _ (x : List ℕ) (i p u a z : ℕ) where
     end = four-other (96 + j) (λ e. omega arith) (λ e. omega arith) (λ e. omega arith) (λ e. omega arith);
   }
 
-pub noted₁ : {x : List ℕ} {i u : ℕ} (y : SymbolAt) → length x ≡ 128 → i < 32 → u ≡ unit-code y
+pub noted₁ : {x : List ℕ} {i u : ℕ} (y : SymbolAt) → length x ≡ names-size → i < most-terms → u ≡ unit-code y
     → Noted x i y (four x i (y .prefix) u (y .start) (y .end))
 noted₁ {x} {i} {u} y l h q = let p = y .prefix in let a = y .start in let z = y .end in record {
   room = simp length-set refl;
@@ -87,17 +88,17 @@ known-told true u h = refl
 known-told false u h = absurd (omega arith)
 
 -- the symbol at i, by its code
-pub symbol-unknown : (s x : List ℕ) (i : ℕ) → getD x (32 + i) 0 ≡ 0
-    → symbol-in s (record { known = false; prefix = getD x i 0; unit = 0; start = getD x (64 + i) 0; end = getD x (96 + i) 0 }) ≡ symbol-at s x i
+pub symbol-unknown : (s x : List ℕ) (i : ℕ) → unit-in x i ≡ 0
+    → symbol-in s (record { known = false; prefix = prefix-at x i; unit = 0; start = letters-at x i; end = letters-end x i }) ≡ symbol-at s x i
 unfolding symbol-at symbol-in by-code
 symbol-unknown s x i e = rw e
 
-pub symbol-known : (s x : List ℕ) (i : ℕ) → (getD x (32 + i) 0 ≡ 0 → ⊥)
-    → symbol-in s (record { known = true; prefix = getD x i 0; unit = getD x (32 + i) 0 - 1; start = getD x (64 + i) 0; end = getD x (96 + i) 0 }) ≡ symbol-at s x i
+pub symbol-known : (s x : List ℕ) (i : ℕ) → (unit-in x i ≡ 0 → ⊥)
+    → symbol-in s (record { known = true; prefix = prefix-at x i; unit = unit-in x i - 1; start = letters-at x i; end = letters-end x i }) ≡ symbol-at s x i
 unfolding symbol-at symbol-in by-code
-symbol-known s x i f = let e : getD x (32 + i) 0 ≡ suc (getD x (32 + i) 0 - 1) = omega arith in go (getD x (32 + i) 0) (getD x (32 + i) 0 - 1) e
+symbol-known s x i f = let e : unit-in x i ≡ suc (unit-in x i - 1) = omega arith in go (unit-in x i) (unit-in x i - 1) e
   where
-    go : (c u : ℕ) → c ≡ suc u → known (place (getD x i 0)) u ≡ by-code c (place (getD x i 0)) (between s (getD x (64 + i) 0) (getD x (96 + i) 0))
+    go : (c u : ℕ) → c ≡ suc u → known (place (prefix-at x i)) u ≡ by-code c (place (prefix-at x i)) (between s (letters-at x i) (letters-end x i))
     go c u e = rw e
 
 -- ALL TERMS
@@ -156,12 +157,12 @@ named-term n {a} {z} {s} v q = rw (q, length-between s a z (v .within), back)
 pub record NamedTo (n : ℕ) (s : List ℕ) (t : Lent) (i : ℕ) (x : List ℕ) : Type 0 where
   pub given : Nameable s t
   pub within : i ≤ count t
-  pub room : length x ≡ 128
+  pub room : length x ≡ names-size
   pub is : terms-in s t x i ≡ map (term n (length s)) (map (placed-in s) (terms t i))
-  pub letters : (j : ℕ) → j < i → getD x (32 + j) 0 ≡ 0 → LettersIn s t x j
-  pub no-letters : (j : ℕ) → j < i → 0 < getD x (32 + j) 0 → NoLetters x j
+  pub letters : (j : ℕ) → j < i → unit-in x j ≡ 0 → LettersIn s t x j
+  pub no-letters : (j : ℕ) → j < i → 0 < unit-in x j → NoLetters x j
 
-pub naming₀ : {n : ℕ} {s : List ℕ} {t : Lent} {x : List ℕ} → Nameable s t → length x ≡ 128 → NamedTo n s t 0 x
+pub naming₀ : {n : ℕ} {s : List ℕ} {t : Lent} {x : List ℕ} → Nameable s t → length x ≡ names-size → NamedTo n s t 0 x
 unfolding terms terms-in
 naming₀ w l = record { given = w; within = omega arith; room = l; is = refl; letters = λ j h. absurd (omega arith); no-letters = λ j h. absurd (omega arith) }
 
@@ -169,10 +170,10 @@ module _ {n : ℕ} {s : List ℕ} {t : Lent} {i : ℕ} {x : List ℕ} (w : Named
   pub naming-in : i < count t → InLabel s (term-at t i)
   naming-in h = all-in-at t (count t) i (w .given .inside) h
 
-  pub naming-few : i < count t → i < 32
+  pub naming-few : i < count t → i < most-terms
   naming-few h = omega (arith, w .given .few)
 
-  module _ {y : SymbolAt} (h : i < count t) (b : BoundedSymbol (getD (t .places) i 0) (getD (t .places) (32 + i) 0) y) where
+  module _ {y : SymbolAt} (h : i < count t) (b : BoundedSymbol (start-at (t .places) i) (end-at (t .places) i) y) where
     pub naming-short : Short y
     naming-short = let v = naming-in h in record {
       row = b .row;
@@ -180,8 +181,8 @@ module _ {n : ℕ} {s : List ℕ} {t : Lent} {i : ℕ} {x : List ℕ} (w : Named
       end = omega (arith, b .upto, v .within, w .given .short);
     }
 
-    pub naming-more : {z : List ℕ} → symbol-in s y ≡ symbol n (between s (getD (t .places) i 0) (getD (t .places) (32 + i) 0))
-        → (y .known ≡ false → LettersAt s (getD (t .places) i 0) (getD (t .places) (32 + i) 0) (y .start) (y .end)) → Noted x i y z → NamedTo n s t (i + 1) z
+    pub naming-more : {z : List ℕ} → symbol-in s y ≡ symbol n (between s (start-at (t .places) i) (end-at (t .places) i))
+        → (y .known ≡ false → LettersAt s (start-at (t .places) i) (end-at (t .places) i) (y .start) (y .end)) → Noted x i y z → NamedTo n s t (i + 1) z
     naming-more {z} e f v = record {
       given = w .given;
       within = omega arith;
@@ -195,7 +196,7 @@ module _ {n : ℕ} {s : List ℕ} {t : Lent} {i : ℕ} {x : List ℕ} (w : Named
       no-letters = λ j l u. go-known j u (decLt j i) l;
     }
       where
-        here : getD z (32 + i) 0 ≡ 0 → LettersIn s t z i
+        here : unit-in z i ≡ 0 → LettersIn s t z i
         here u = let k = unknown-told (y .known) (y .unit) (sym (v .noted .unit) ∙ u) in record {
           from = rw (v .noted .start) (b .from k);
           forward = rw (v .noted .start, v .noted .end) (b .forward);
@@ -203,21 +204,21 @@ module _ {n : ℕ} {s : List ℕ} {t : Lent} {i : ℕ} {x : List ℕ} (w : Named
           there = rw (v .noted .start, v .noted .end) (f k);
         }
 
-        here-known : 0 < getD z (32 + i) 0 → NoLetters z i
+        here-known : 0 < unit-in z i → NoLetters z i
         here-known u = let k = b .none (known-told (y .known) (y .unit) (rw (v .noted .unit) at u)) in
             record { start = v .noted .start ∙ k .0; end = v .noted .end ∙ k .1 }
 
-        before-known : (j : ℕ) → j < i → 0 < getD z (32 + j) 0 → NoLetters z j
+        before-known : (j : ℕ) → j < i → 0 < unit-in z j → NoLetters z j
         before-known j l u =
             let q = v .stay j l in
             let o = w .no-letters j l (rw (q .unit) at u) in
             record { start = q .start ∙ o .start; end = q .end ∙ o .end }
 
-        go-known : (j : ℕ) → 0 < getD z (32 + j) 0 → Dec (j < i) → j < i + 1 → NoLetters z j
+        go-known : (j : ℕ) → 0 < unit-in z j → Dec (j < i) → j < i + 1 → NoLetters z j
         go-known j u (yes l) g = before-known j l u
         go-known j u (no l) g = let e : j ≡ i = omega arith in rw e (here-known (rw e at u))
 
-        before : (j : ℕ) → j < i → getD z (32 + j) 0 ≡ 0 → LettersIn s t z j
+        before : (j : ℕ) → j < i → unit-in z j ≡ 0 → LettersIn s t z j
         before j l u =
             let q = v .stay j l in
             let o = w .letters j l (sym (q .unit) ∙ u) in
@@ -228,7 +229,7 @@ module _ {n : ℕ} {s : List ℕ} {t : Lent} {i : ℕ} {x : List ℕ} (w : Named
               there = rw (q .start, q .end) (o .there);
             }
 
-        go : (j : ℕ) → getD z (32 + j) 0 ≡ 0 → Dec (j < i) → j < i + 1 → LettersIn s t z j
+        go : (j : ℕ) → unit-in z j ≡ 0 → Dec (j < i) → j < i + 1 → LettersIn s t z j
         go j u (yes l) g = before j l u
         go j u (no l) g = let e : j ≡ i = omega arith in rw e (here (rw e at u))
 

@@ -14,6 +14,7 @@ use Rattle.label.specs.Units.{base-count, in-tens}
 use Rattle.label.specs.Reading as spec
 use Rattle.label.specs.Reading.{exponent, sum, times, one, base-in, prime-in, total, dimensions-of, scale-of}
 use Rattle.label.specs.Symbols.{Symbol}
+use Rattle.label.specs.Limits.{most-terms}
 use Rattle.symbols.specs.Slots.{prime-at}
 use Rattle.symbols.specs.Views.{symbol-in}
 use Rattle.symbols.specs.declared.SymbolAt.{SymbolAt}
@@ -98,7 +99,7 @@ module _ (r : ℤ) (small : natAbs r ≤ 2 ^ 37) where
 abbrev pub bound : ℕ → ℕ
 bound i = 2 ^ 37 + i * 2 ^ 39
 
-pub summable : {n : ℕ} (i : ℕ) {ys : List ℤ} → length ys ≡ n → i < 32 → SumsWithin (bound i) ys → Summable n ys
+pub summable : {n : ℕ} (i : ℕ) {ys : List ℤ} → length ys ≡ n → i < most-terms → SumsWithin (bound i) ys → Summable n ys
 summable i e h w = record { room = e; small = record { within = λ b. omega (arith, w .within b) } }
 
 pub bound-more : (i : ℕ) {power : ℕ → ℤ} {e : Exponent} {ys zs : List ℤ} → SumsWithin (bound i) ys → Added power e ys zs → SumsWithin (bound (i + 1)) zs

@@ -5,6 +5,14 @@ use mathlib.Core.List.{List}
 use lib.IntN.{ℤ, pos, natAbs, _+ℤ_, _*ℤ_}
 use lib.ListN.{length, getD, replicate}
 use Rattle.label.specs.declared.Exponent.{Exponent}
+use Rattle.label.specs.Units.{base-count}
+
+-- a reading has a sum for each base and for each of 2, 3, 5 and 487
+abbrev pub prime-count : ℕ
+prime-count = 4
+
+abbrev pub sum-count : ℕ
+sum-count = base-count + prime-count
 
 -- n sums of nothing
 abbrev pub zero-sums : ℕ → List ℤ

@@ -1,7 +1,9 @@
 // The dimensions of a reading: the exponent of each base, summed over the terms.
+use crate::named::NAME_PLACES;
 use crate::named::symbol_at;
 use crate::sums::add_power;
 use label::Exponent;
+use label::MOST_TERMS;
 use symbols::SymbolAt;
 use symbols::properties::slot_base;
 use symbols::properties::slot_power;
@@ -11,6 +13,8 @@ ghost use mathlib.Core.Path.{_≡_};
 ghost use mathlib.Core.List.{List, map};
 ghost use Prim.Native.Nat.{ℕ, _≤_};
 ghost use Rattle.label.specs.Reading.{exponent, base-in, dimensions-of};
+ghost use Rattle.label.specs.Limits.{most-terms};
+ghost use Rattle.label.specs.Units.{base-count};
 ghost use Rattle.symbols.specs.Columns.{unit-bases, unit-powers};
 ghost use Rattle.symbols.specs.Views.{symbol-in};
 ghost use Rattle.descent.specs.Terms.{lent};
@@ -19,7 +23,7 @@ ghost use Rattle.content.specs.Sums.{Summable, Added, zero-sums};
 
 // Adds a term to the sums: to the sum of each base, the base's power in the term's unit times the term's exponent.
 fn add_bases(bases: &[u8], powers: &[i8], x: SymbolAt, e: Exponent, sums: &mut [i64])
-    requires { ⌜ (now bases ≡ unit-bases) × ((now powers ≡ unit-powers) × Summable 32 (now sums)) ⌝ }
+    requires { ⌜ (now bases ≡ unit-bases) × ((now powers ≡ unit-powers) × Summable base-count (now sums)) ⌝ }
     ensures { λ _. ⌜ ((s : List ℕ) →
         Added (λ b. base-in b (symbol-in s x)) e (now (sums .entry)) (now (sums .exit))) ⌝ }
 {
@@ -35,8 +39,13 @@ fn add_bases(bases: &[u8], powers: &[i8], x: SymbolAt, e: Exponent, sums: &mut [
 }
 
 // The exponent of each base, by its number, in the first `count` terms, in sums that start at 0.
-pub fn dimensions(count: usize, exponents: &[i32; 32], names: &[u8; 128], sums: &mut [i64])
-    requires { ⌜ (count ≤ 32) × (now sums ≡ zero-sums 32) ⌝ }
+pub fn dimensions(
+    count: usize,
+    exponents: &[i32; MOST_TERMS],
+    names: &[u8; NAME_PLACES],
+    sums: &mut [i64],
+)
+    requires { ⌜ (count ≤ most-terms) × (now sums ≡ zero-sums base-count) ⌝ }
     ensures { λ _. ⌜ ((s p : List ℕ) → map exponent (now (sums .exit))
         ≡ dimensions-of (terms-in s (lent p (now (exponents .entry))) (now (names .entry)) count)) ⌝ }
 {

@@ -1,4 +1,5 @@
 // The three verdicts on the terms of a reading.
+use crate::named::NAME_PLACES;
 use crate::named::symbol_at;
 use scan::class::both;
 use symbols::properties::is_lawful;
@@ -7,6 +8,7 @@ use symbols::tables::unit_prefixed;
 use symbols::tables::unit_recommended;
 ghost use mathlib.Core.List.{List};
 ghost use Prim.Native.Nat.{ℕ, _≤_};
+ghost use Rattle.label.specs.Limits.{most-terms};
 ghost use Rattle.descent.specs.Terms.{Lent};
 ghost use Rattle.content.specs.Views.{terms-in};
 ghost use Rattle.content.specs.Verdicts.{VerdictsOn};
@@ -19,8 +21,8 @@ pub struct Verdicts {
 }
 
 // The verdicts on the first `count` terms in notation `n`.
-pub fn verdicts_on(n: u8, count: usize, names: &[u8; 128]) -> Verdicts
-    requires { ⌜ count ≤ 32 ⌝ }
+pub fn verdicts_on(n: u8, count: usize, names: &[u8; NAME_PLACES]) -> Verdicts
+    requires { ⌜ count ≤ most-terms ⌝ }
     ensures { λ r. ⌜ ((s : List ℕ) (t : Lent) → VerdictsOn n (terms-in s t (now (names .entry)) count) r) ⌝ }
 {
     let prefixed = unit_prefixed();

@@ -6,7 +6,9 @@ use lib.IntN.{ℤ, pos, natAbs}
 use lib.ListN.{length, getD}
 use Rattle.label.specs.Reading.{exponent, Scale, Reading, reading}
 use Rattle.label.specs.Conversion as spec
+use Rattle.label.specs.Units.{base-count}
 use Rattle.content.specs.Views.{scale-in}
+use Rattle.content.specs.Sums.{prime-count}
 use Rattle.reading.specs.declared.read.Answer.{Answer}
 use Rattle.conversion.specs.declared.answer.Conversion.{Conversion}
 use Rattle.conversion.specs.declared.fraction.ScaleRatio.{ScaleRatio}
@@ -24,10 +26,10 @@ pub record Sums (ds cs : List ℤ) (r : Reading) : Type 0 where
 
 -- four exponents, each small enough that a difference fits the machine
 pub record LimitedScale (cs : List ℤ) : Type 0 where
-  pub small : (i : ℕ) → i < 4 → natAbs (getD cs i (pos 0)) < 2 ^ 28
+  pub small : (i : ℕ) → i < prime-count → natAbs (getD cs i (pos 0)) < 2 ^ 28
 
 pub record Summed (ds cs : List ℤ) : Type 0 where
-  pub dimensions : length ds ≡ 32
+  pub dimensions : length ds ≡ base-count
   pub scale : LimitedScale cs
 
 -- the number, and where it is 0, the sums and whether all units are known

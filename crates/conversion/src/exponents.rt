@@ -1,4 +1,5 @@
 // Exponents with a sign: their sizes, differences, and the ones in their sixtieths.
+use label::PARTS_OF_ONE;
 ghost use mathlib.Core.Path.{_≡_};
 ghost use Prim.Native.Nat.{_+_, _%_, _<_, _≤_, _^_};
 ghost use lib.IntN.{natAbs, _-ℤ_};
@@ -43,16 +44,18 @@ pub fn difference(a: i64, b: i64) -> i64
     a - b
 }
 
+const SIXTIETHS: i64 = PARTS_OF_ONE as i64;
+
 // Whether so many sixtieths are ones.
 pub fn is_whole(z: i64) -> bool
     ensures { λ r. ⌜ r ≡ is-whole (exponent z) ⌝ }
 {
-    size(z) % 60 == 0
+    size(z) % PARTS_OF_ONE == 0
 }
 
 // How many ones are in so many sixtieths.
 pub fn ones(z: i64) -> i64
     ensures { λ r. ⌜ (r ≡ whole-number (exponent z)) × (natAbs r ≤ natAbs z) ⌝ }
 {
-    z / 60
+    z / SIXTIETHS
 }

@@ -11,10 +11,10 @@ use lib.ListN.{length, getD, set, length-set, length-append}
 use lib.Seq.{getD-set-same, getD-set-other}
 use Rattle.label.specs.declared.Exponent.{Exponent}
 use Rattle.label.specs.Lexical.{Part}
-use Rattle.label.specs.Limits.{exponent-of}
+use Rattle.label.specs.Limits.{exponent-of, most-terms}
 use Rattle.label.specs.Split.{Placed, valued-unit, valued-units}
 use Rattle.values.specs.Given.{given}
-use Rattle.descent.specs.Terms.{Lent, lent, Roomy, count, broken, NoTerms, LentTerm, term, term-at, terms, mark, KeepsTerm, placed-in, missing, InLabel, AllIn, HoldsUnits}
+use Rattle.descent.specs.Terms.{Lent, lent, Roomy, count, broken, NoTerms, LentTerm, term, term-at, terms, mark, KeepsTerm, placed-in, missing, InLabel, AllIn, HoldsUnits, ends-from, count-place, broken-place, count-in}
 
 -- terms that are the same one by one
 terms-same : (t u : Lent) (n : ℕ) → ((i : ℕ) → i < n → term-at u i ≡ term-at t i) → terms u n ≡ terms t n
@@ -33,43 +33,43 @@ terms-length t (suc n) = length-append (terms t n) (term-at t n ∷ []) ∙ omeg
 
 -- the places with the count and the mark of one term more, then with term n too
 abbrev noted : List ℕ → ℕ → ℕ → List ℕ
-noted p n m = set (set p 64 (n + 1)) 65 m
+noted p n m = set (set p count-place (n + 1)) broken-place m
 
 abbrev stored : List ℕ → ℕ → ℕ → ℕ → ℕ → List ℕ
-stored p n m a z = set (set (noted p n m) n a) (32 + n) z
+stored p n m a z = set (set (noted p n m) n a) (ends-from + n) z
 
-module _ (p : List ℕ) (n m : ℕ) (l : length p ≡ 66) where
-  noted-count : getD (noted p n m) 64 0 ≡ n + 1
-  noted-count = getD-set-other (set p 64 (n + 1)) 65 64 m 0 (λ e. omega arith) ∙ getD-set-same p 64 (n + 1) 0 (omega arith)
+module _ (p : List ℕ) (n m : ℕ) (l : length p ≡ broken-place + 1) where
+  noted-count : getD (noted p n m) count-place 0 ≡ n + 1
+  noted-count = getD-set-other (set p count-place (n + 1)) broken-place count-place m 0 (λ e. omega arith) ∙ getD-set-same p count-place (n + 1) 0 (omega arith)
 
   noted-length : length (noted p n m) ≡ 66
   noted-length = simp length-set l
 
-  noted-mark : getD (noted p n m) 65 0 ≡ m
-  noted-mark = getD-set-same (set p 64 (n + 1)) 65 m 0 (simp length-set (omega arith))
+  noted-mark : getD (noted p n m) broken-place 0 ≡ m
+  noted-mark = getD-set-same (set p count-place (n + 1)) broken-place m 0 (simp length-set (omega arith))
 
-  noted-other : (i : ℕ) → i < 64 → getD (noted p n m) i 0 ≡ getD p i 0
-  noted-other i h = getD-set-other (set p 64 (n + 1)) 65 i m 0 (λ e. omega arith) ∙ getD-set-other p 64 i (n + 1) 0 (λ e. omega arith)
+  noted-other : (i : ℕ) → i < count-place → getD (noted p n m) i 0 ≡ getD p i 0
+  noted-other i h = getD-set-other (set p count-place (n + 1)) broken-place i m 0 (λ e. omega arith) ∙ getD-set-other p count-place i (n + 1) 0 (λ e. omega arith)
 
   module _ (a z : ℕ) where
-    stored-other : (i : ℕ) → (i ≡ n → ⊥) → (i ≡ 32 + n → ⊥) → getD (stored p n m a z) i 0 ≡ getD (noted p n m) i 0
-    stored-other i e f = getD-set-other (set (noted p n m) n a) (32 + n) i z 0 f ∙ getD-set-other (noted p n m) n i a 0 e
+    stored-other : (i : ℕ) → (i ≡ n → ⊥) → (i ≡ ends-from + n → ⊥) → getD (stored p n m a z) i 0 ≡ getD (noted p n m) i 0
+    stored-other i e f = getD-set-other (set (noted p n m) n a) (ends-from + n) i z 0 f ∙ getD-set-other (noted p n m) n i a 0 e
 
-    stored-start : n < 32 → getD (stored p n m a z) n 0 ≡ a
-    stored-start h = getD-set-other (set (noted p n m) n a) (32 + n) n z 0 (λ e. omega arith) ∙ getD-set-same (noted p n m) n a 0 (omega (arith, noted-length))
+    stored-start : n < most-terms → getD (stored p n m a z) n 0 ≡ a
+    stored-start h = getD-set-other (set (noted p n m) n a) (ends-from + n) n z 0 (λ e. omega arith) ∙ getD-set-same (noted p n m) n a 0 (omega (arith, noted-length))
 
-    stored-end : n < 32 → getD (stored p n m a z) (32 + n) 0 ≡ z
-    stored-end h = getD-set-same (set (noted p n m) n a) (32 + n) z 0 (rw length-set (omega (arith, noted-length)))
+    stored-end : n < most-terms → getD (stored p n m a z) (ends-from + n) 0 ≡ z
+    stored-end h = getD-set-same (set (noted p n m) n a) (ends-from + n) z 0 (rw length-set (omega (arith, noted-length)))
 
-marks-as : (p : List ℕ) (n m : ℕ) (ok : Bool) → m ≡ mark ok (getD (set p 64 (n + 1)) 65 0) → m ≡ mark ok (getD p 65 0)
-marks-as p n m ok w = w ∙ ap (mark ok) (getD-set-other p 64 65 (n + 1) 0 (λ q. omega arith))
+marks-as : (p : List ℕ) (n m : ℕ) (ok : Bool) → m ≡ mark ok (getD (set p count-place (n + 1)) broken-place 0) → m ≡ mark ok (getD p broken-place 0)
+marks-as p n m ok w = w ∙ ap (mark ok) (getD-set-other p count-place broken-place (n + 1) 0 (λ q. omega arith))
 
-module _ {p : List ℕ} {e : List ℤ} {n m a z : ℕ} {x : ℤ} {ok : Bool} (l : Roomy (lent p e)) (c : getD p 64 0 ≡ n) (w : m ≡ mark ok (getD (set p 64 (n + 1)) 65 0)) where
-  pub kept-in-room : {y : ℤ} → y ≡ x → n < 32 → KeepsTerm (lent p e) a z x ok (lent (stored p n m a z) (set e n y))
+module _ {p : List ℕ} {e : List ℤ} {n m a z : ℕ} {x : ℤ} {ok : Bool} (l : Roomy (lent p e)) (c : count-in p ≡ n) (w : m ≡ mark ok (getD (set p count-place (n + 1)) broken-place 0)) where
+  pub kept-in-room : {y : ℤ} → y ≡ x → n < most-terms → KeepsTerm (lent p e) a z x ok (lent (stored p n m a z) (set e n y))
   kept-in-room {y} q h = record {
     room = record { places = simp length-set (l .places); exponents = simp length-set (l .exponents) };
-    counted = stored-other p n m (l .places) a z 64 (λ q. omega arith) (λ q. omega arith) ∙ noted-count p n m (l .places) ∙ ap (λ (k : ℕ). k + 1) (sym c);
-    marks = stored-other p n m (l .places) a z 65 (λ q. omega arith) (λ q. omega arith) ∙ noted-mark p n m (l .places) ∙ marks-as p n m ok w;
+    counted = stored-other p n m (l .places) a z count-place (λ q. omega arith) (λ q. omega arith) ∙ noted-count p n m (l .places) ∙ ap (λ (k : ℕ). k + 1) (sym c);
+    marks = stored-other p n m (l .places) a z broken-place (λ q. omega arith) (λ q. omega arith) ∙ noted-mark p n m (l .places) ∙ marks-as p n m ok w;
     adds = λ g. rw (
       c,
       terms-next (lent (stored p n m a z) (set e n y)) n,
@@ -81,17 +81,17 @@ module _ {p : List ℕ} {e : List ℤ} {n m a z : ℕ} {x : ℤ} {ok : Bool} (l 
     );
   }
     where
-      place : (i : ℕ) → i < 64 → (i ≡ n → ⊥) → (i ≡ 32 + n → ⊥) → getD (stored p n m a z) i 0 ≡ getD p i 0
+      place : (i : ℕ) → i < count-place → (i ≡ n → ⊥) → (i ≡ ends-from + n → ⊥) → getD (stored p n m a z) i 0 ≡ getD p i 0
       place i g q f = stored-other p n m (l .places) a z i q f ∙ noted-other p n m (l .places) i g
 
       same : (i : ℕ) → i < n → term-at (lent (stored p n m a z) (set e n y)) i ≡ term-at (lent p e) i
       same i g = rw (
         place i (omega arith) (λ q. omega arith) (λ q. omega arith),
-        place (32 + i) (omega arith) (λ q. omega arith) (λ q. omega arith),
+        place (ends-from + i) (omega arith) (λ q. omega arith) (λ q. omega arith),
         getD-set-other e n i y (pos 0) (λ q. omega arith),
       )
 
-  pub kept-without-room : 32 ≤ n → KeepsTerm (lent p e) a z x ok (lent (noted p n m) e)
+  pub kept-without-room : most-terms ≤ n → KeepsTerm (lent p e) a z x ok (lent (noted p n m) e)
   kept-without-room h = record {
     room = record { places = simp length-set (l .places); exponents = l .exponents };
     counted = noted-count p n m (l .places) ∙ ap (λ (k : ℕ). k + 1) (sym c);
@@ -142,7 +142,7 @@ module _ (s : List ℕ) {t u : Lent} {a z : ℕ} {x : Exponent} {ok : Bool} (p :
   units-more : (ps : List Part) → valued-units (ps ++ (p ∷ [])) ≡ both-units (valued-units ps) (given ok (placed-in s (term a z (x .0)) ∷ []))
   units-more ps = units-append ps (p ∷ []) ∙ ap (both-units (valued-units ps)) (one-unit p ok x q ∙ ap (λ (y : Placed). given ok (y ∷ [])) (sym same))
 
-  terms-more : (ps : List Part) → count t ≡ length ps → length (ps ++ (p ∷ [])) ≤ 32 → terms u (length (ps ++ (p ∷ []))) ≡ terms t (length ps) ++ (term a z (x .0) ∷ [])
+  terms-more : (ps : List Part) → count t ≡ length ps → length (ps ++ (p ∷ [])) ≤ most-terms → terms u (length (ps ++ (p ∷ []))) ≡ terms t (length ps) ++ (term a z (x .0) ∷ [])
   terms-more ps c l = rw (length-append ps (p ∷ []), ← c) (w .adds (omega (arith, length-append ps (p ∷ []))))
 
   pub holds-more : (ps : List Part) → HoldsUnits s t ps → HoldsUnits s u (ps ++ (p ∷ []))
@@ -160,9 +160,9 @@ module _ (s : List ℕ) {t u : Lent} {a z : ℕ} {x : Exponent} {ok : Bool} (p :
       flag (some us) true = refl
       flag (some us) false = refl
 
-      keeps : length (ps ++ (p ∷ [])) ≤ 32 → broken u ≡ 0 → (n : ℕ) (b : Bool) → broken t ≡ n → ok ≡ b
+      keeps : length (ps ++ (p ∷ [])) ≤ most-terms → broken u ≡ 0 → (n : ℕ) (b : Bool) → broken t ≡ n → ok ≡ b
           → both-units (valued-units ps) (given ok (placed-in s (term a z (x .0)) ∷ [])) ≡ some (map (placed-in s) (terms u (length (ps ++ (p ∷ [])))))
       keeps l e n false y v = absurd (omega (arith, rw v at (w .marks)))
       keeps l e n true y v =
-          let few : length ps < 32 = omega (arith, length-append ps (p ∷ [])) in
+          let few : length ps < most-terms = omega (arith, length-append ps (p ∷ [])) in
           rw (h .kept (omega arith) (omega (arith, rw v at (w .marks))), v, terms-more ps (h .counted) l, map-append (placed-in s) (terms t (length ps)) (term a z (x .0) ∷ []))

@@ -7,6 +7,7 @@ use mathlib.Core.Option.{Option, none as nothing, some}
 use lib.IntN.{ℤ, pos}
 use lib.ListN.{length, getD}
 use Rattle.label.specs.Lexical.{Part}
+use Rattle.label.specs.Limits.{most-terms}
 use Rattle.label.specs.Split.{Placed, valued-units}
 use Rattle.label.specs.Ranges.{between}
 
@@ -19,17 +20,35 @@ pub record Lent : Type 0 where
 abbrev pub lent : List ℕ → List ℤ → Lent
 lent p e = record { places = p; exponents = e }
 
+-- the starts of the spellings, from here on their ends, how many terms there are, and a 1 where a power breaks its bound
+abbrev pub ends-from : ℕ
+ends-from = most-terms
+
+abbrev pub count-place : ℕ
+count-place = ends-from + most-terms
+
+abbrev pub broken-place : ℕ
+broken-place = count-place + 1
+
 pub record Roomy (t : Lent) : Type 0 where
-  pub places : length (t .places) ≡ 66
-  pub exponents : length (t .exponents) ≡ 32
+  pub places : length (t .places) ≡ broken-place + 1
+  pub exponents : length (t .exponents) ≡ most-terms
 
--- how many terms there are
+-- where the spelling of a term starts, and where it ends, by its number
+abbrev pub start-at : List ℕ → ℕ → ℕ
+start-at p i = getD p i 0
+
+abbrev pub end-at : List ℕ → ℕ → ℕ
+end-at p i = getD p (ends-from + i) 0
+
+abbrev pub count-in : List ℕ → ℕ
+count-in p = getD p count-place 0
+
 abbrev pub count : Lent → ℕ
-count t = getD (t .places) 64 0
+count t = count-in (t .places)
 
--- 1 where a power breaks its bound
 abbrev pub broken : Lent → ℕ
-broken t = getD (t .places) 65 0
+broken t = getD (t .places) broken-place 0
 
 -- no term yet
 pub record NoTerms (t : Lent) : Type 0 where
@@ -46,9 +65,9 @@ pub record LentTerm : Type 0 where
 abbrev pub term : ℕ → ℕ → ℤ → LentTerm
 term a z x = record { start = a; end = z; exponent = x }
 
--- term i of 32
+-- a term by its number
 abbrev pub term-at : Lent → ℕ → LentTerm
-term-at t i = term (getD (t .places) i 0) (getD (t .places) (32 + i) 0) (getD (t .exponents) i (pos 0))
+term-at t i = term (start-at (t .places) i) (end-at (t .places) i) (getD (t .exponents) i (pos 0))
 
 -- the first n terms
 unfoldable pub terms : Lent → ℕ → List LentTerm
@@ -65,7 +84,7 @@ pub record KeepsTerm (t : Lent) (a z : ℕ) (x : ℤ) (ok : Bool) (u : Lent) : T
   pub room : Roomy u
   pub counted : count u ≡ count t + 1
   pub marks : broken u ≡ mark ok (broken t)
-  pub adds : count t < 32 → terms u (count t + 1) ≡ terms t (count t) ++ (term a z x ∷ [])
+  pub adds : count t < most-terms → terms u (count t + 1) ≡ terms t (count t) ++ (term a z x ∷ [])
 
 -- THE UNITS THAT THEY REPRESENT
 
@@ -87,9 +106,9 @@ pub data AllIn (s : List ℕ) : List LentTerm → Type 0 where
   none : AllIn s []
   more : {x : LentTerm} {xs : List LentTerm} → InLabel s x → AllIn s xs → AllIn s (x ∷ xs)
 
--- the terms represent these units: all are counted, a mark says whether a power breaks its bound, and up to 32 are kept with their values
+-- the terms represent these units: all are counted, a mark says whether a power breaks its bound, and the first 32 are kept with their values
 pub record HoldsUnits (s : List ℕ) (t : Lent) (ps : List Part) : Type 0 where
   pub counted : count t ≡ length ps
   pub marks : broken t ≡ missing (valued-units ps)
-  pub kept : length ps ≤ 32 → broken t ≡ 0 → valued-units ps ≡ some (map (placed-in s) (terms t (length ps)))
-  pub inside : length ps ≤ 32 → AllIn s (terms t (length ps))
+  pub kept : length ps ≤ most-terms → broken t ≡ 0 → valued-units ps ≡ some (map (placed-in s) (terms t (length ps)))
+  pub inside : length ps ≤ most-terms → AllIn s (terms t (length ps))

@@ -4,7 +4,9 @@ use crate::joint::join_at;
 use crate::joint::last_slash;
 use crate::joint::leading_slash;
 use crate::joint::turned_by;
+use crate::terms::PLACES;
 use crate::terms::keep;
+use label::MOST_TERMS;
 use label::Rules;
 use scan::class::byte_at;
 use scan::spelling::spelling_at;
@@ -21,8 +23,8 @@ pub fn read_unit(
     s: &[u8],
     at: usize,
     turned: bool,
-    places: &mut [usize; 66],
-    exponents: &mut [i32; 32],
+    places: &mut [usize; PLACES],
+    exponents: &mut [i32; MOST_TERMS],
 ) -> usize
     requires { ⌜ Ready (now s) at (lent (now places) (now exponents)) ⌝ }
     ensures { λ o. ⌜ ReadsUnit r turned (now (s .entry)) at
@@ -57,8 +59,8 @@ pub fn read_group(
     s: &[u8],
     at: usize,
     turned: bool,
-    places: &mut [usize; 66],
-    exponents: &mut [i32; 32],
+    places: &mut [usize; PLACES],
+    exponents: &mut [i32; MOST_TERMS],
 ) -> usize
     requires { ⌜ Ready (now s) at (lent (now places) (now exponents)) ⌝ }
     ensures { λ o. ⌜ Grouped r turned (now (s .entry)) at
@@ -84,8 +86,8 @@ pub fn read_item(
     s: &[u8],
     at: usize,
     turned: bool,
-    places: &mut [usize; 66],
-    exponents: &mut [i32; 32],
+    places: &mut [usize; PLACES],
+    exponents: &mut [i32; MOST_TERMS],
 ) -> usize
     requires { ⌜ Ready (now s) at (lent (now places) (now exponents)) ⌝ }
     ensures { λ o. ⌜ Stepped item r turned (now (s .entry)) at
@@ -103,8 +105,8 @@ pub fn read_product(
     s: &[u8],
     at: usize,
     sense: Sense,
-    places: &mut [usize; 66],
-    exponents: &mut [i32; 32],
+    places: &mut [usize; PLACES],
+    exponents: &mut [i32; MOST_TERMS],
 ) -> usize
     requires { ⌜ Ready (now s) at (lent (now places) (now exponents)) ⌝ }
     ensures { λ o. ⌜ Stepped (kind (sense .over)) r (sense .turned) (now (s .entry)) at

@@ -2,6 +2,8 @@
 use crate::descent::Sense;
 use crate::descent::read_item;
 use crate::descent::read_product;
+use crate::terms::PLACES;
+use label::MOST_TERMS;
 use label::Rules;
 use label::WrittenFactor;
 use scan::class::both;
@@ -73,8 +75,8 @@ pub fn ended(s: &[u8], f: WrittenFactor, p: usize) -> LabelRead
 pub fn factored(
     r: Rules,
     s: &[u8],
-    places: &mut [usize; 66],
-    exponents: &mut [i32; 32],
+    places: &mut [usize; PLACES],
+    exponents: &mut [i32; MOST_TERMS],
 ) -> LabelRead
     requires { ⌜ NoTerms (lent (now places) (now exponents)) ⌝ }
     ensures { λ o. ⌜ ReadsFactored r (now (s .entry)) (lent (now (places .exit)) (now (exponents .exit))) o ⌝ }
@@ -97,8 +99,8 @@ pub fn factored(
 pub fn read_label(
     r: Rules,
     s: &[u8],
-    places: &mut [usize; 66],
-    exponents: &mut [i32; 32],
+    places: &mut [usize; PLACES],
+    exponents: &mut [i32; MOST_TERMS],
 ) -> LabelRead
     requires { ⌜ NoTerms (lent (now places) (now exponents)) ⌝ }
     ensures { λ o. ⌜ ReadsLabel r (now (s .entry)) (lent (now (places .exit)) (now (exponents .exit))) o ⌝ }

@@ -8,6 +8,7 @@ use lib.IntN.{ℤ}
 use lib.ListN.{length, take, drop, length-append, take-append-drop}
 use borrow.Author.Tests.{eq-eqb, ne-eqb}
 use Rattle.label.specs.Reading.{reading}
+use Rattle.label.specs.Units.{base-count}
 use Rattle.descent.specs.Terms.{Lent, count}
 use Rattle.content.proofs.Naming.{all-in-at}
 use Rattle.reading.specs.declared.read.Answer.{Answer}
@@ -29,7 +30,7 @@ module _ {n : ℕ} {s : List ℕ} {t : Lent} {x : List ℕ} {ds cs : List ℤ} {
   unfolding buffer-after
   accepted zero b q = q s (record { noted = w .noted zero }) ∙ rw (w .is zero, ← w .number, eq-eqb (r .number) 0 zero)
 
-pub recordable : {n : ℕ} {s : List ℕ} {t : Lent} {x : List ℕ} (zs : List ℤ) {r : Answer} → ReadingAnswer n s t x (take 32 zs) (drop 32 zs) r → r .number ≡ 0
+pub recordable : {n : ℕ} {s : List ℕ} {t : Lent} {x : List ℕ} (zs : List ℤ) {r : Answer} → ReadingAnswer n s t x (take base-count zs) (drop base-count zs) r → r .number ≡ 0
     → Recordable t x zs
 recordable {t = t} zs w zero = let v = w .within zero in record {
   few = v .few;
@@ -38,7 +39,7 @@ recordable {t = t} zs w zero = let v = w .within zero in record {
       let l = w .noted zero i h in
       record { forward = a .forward; short = omega (arith, a .within, v .short); letters = omega (arith, l .start, l .end) };
   sums =
-      ap length (sym (take-append-drop 32 zs))
-      ∙ length-append (take 32 zs) (drop 32 zs)
+      ap length (sym (take-append-drop base-count zs))
+      ∙ length-append (take base-count zs) (drop base-count zs)
       ∙ (λ i. dimensions-room w zero i + w .primes zero i);
 }

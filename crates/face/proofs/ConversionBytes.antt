@@ -16,11 +16,11 @@ use Rattle.label.specs.Choice.{pick}
 use Rattle.label.specs.Conversion as spec
 use Rattle.claims.specs.Converting.{Limits}
 use Rattle.content.proofs.Integers.{widened-is}
-use Rattle.record.specs.Record.{encoded, written-over}
-use Rattle.record.proofs.Lending.{over-short}
 use Rattle.conversion.specs.declared.answer.Conversion.{Conversion}
 use Rattle.conversion.specs.Answers.{conversion-in}
-use Rattle.face.specs.ConversionRecord.{conversion-fields, conversion-record, conversion-after}
+use Rattle.record.specs.Record.{encoded, written-over}
+use Rattle.record.proofs.Lending.{over-short}
+use Rattle.face.specs.ConversionRecord.{conversion-size, conversion-fields, conversion-record, conversion-after}
 
 -- THE RECORD
 
@@ -32,17 +32,17 @@ module _ (x : Conversion) (n : x .number < 2 ^ 8) (h : (x .numerator < 2 ^ 63) �
   held-are : held x ≡ conversion-fields (conversion-in x)
   held-are = rw (toZ-pos w64 {n = x .number} (omega (arith, n)), toZ-pos w64 (h .0), toZ-pos w64 (h .1), widened-is f)
 
-  module _ (w : List ℕ) (l : length w ≡ 32) (e : take 32 w ≡ encoded (held x)) where
+  module _ (w : List ℕ) (l : length w ≡ conversion-size) (e : take conversion-size w ≡ encoded (held x)) where
     record-is : w ≡ conversion-record (conversion-in x)
     unfolding conversion-record
-    record-is = sym (take-all 32 w (omega (arith, l))) ∙ e ∙ ap encoded held-are
+    record-is = sym (take-all conversion-size w (omega (arith, l))) ∙ e ∙ ap encoded held-are
 
     module _ (b : List ℕ) {c : List ℕ} where
-      pub short-buffer : length b < 32 → c ≡ take (length (take (length b) w)) (take (length b) w) ++ drop (length (take (length b) w)) b
+      pub short-buffer : length b < conversion-size → c ≡ take (length (take (length b) w)) (take (length b) w) ++ drop (length (take (length b) w)) b
           → c ≡ written-over (conversion-record (conversion-in x)) b
       short-buffer g q = over-short w b (omega (arith, l)) q ∙ ap (λ (xs : List ℕ). written-over xs b) record-is
 
-      pub long-buffer : 32 ≤ length b → c ≡ take (length w) w ++ drop (length w) b → c ≡ written-over (conversion-record (conversion-in x)) b
+      pub long-buffer : conversion-size ≤ length b → c ≡ take (length w) w ++ drop (length w) b → c ≡ written-over (conversion-record (conversion-in x)) b
       unfolding written-over
       long-buffer g q = q ∙ rw (take-length w) (ap (λ (xs : List ℕ). xs ++ drop (length w) b) (sym (take-all (length b) w (omega (arith, l))))) ∙ ap (λ (xs : List ℕ). written-over xs b) record-is
 

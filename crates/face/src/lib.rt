@@ -1,15 +1,19 @@
 // What a C program calls.
 pub mod convert;
 
+use content::named::NAME_PLACES;
+use content::sums::SUMS;
+use descent::terms::PLACES;
+use label::MOST_TERMS;
 use reading::read::read;
 use record::buffer::write_record;
 use rewriting::rewrite::Rewritten;
 use rewriting::rewrite::rewrite;
 ghost use mathlib.Core.Path.{_≡_};
 ghost use Rattle.label.specs.Reading.{reading};
-ghost use Rattle.record.specs.Record.{buffer-after};
 ghost use Rattle.label.specs.Writing.{rewriting-into, buffer-with};
 ghost use Rattle.rewriting.specs.Buffers.{AnswerIs};
+ghost use Rattle.record.specs.Record.{buffer-after};
 ghost use lib.ListN.{length};
 
 // Reads the label in a notation and answers the number of the refusal, or 0 and the reading's record in the lent buffer.
@@ -18,10 +22,10 @@ pub extern "C" fn thalinguze_read(notation: u32, label: &[u8], buffer: &mut [u8]
     ensures { λ n. ⌜ n ≡ reading notation (now (label .entry)) .number ⌝ }
     ensures { λ _. ⌜ now (buffer .exit) ≡ buffer-after (reading notation (now (label .entry))) (now (buffer .entry)) ⌝ }
 {
-    let mut places: [usize; 66] = [0; 66];
-    let mut exponents: [i32; 32] = [0; 32];
-    let mut names: [u8; 128] = [0; 128];
-    let mut sums: [i64; 36] = [0; 36];
+    let mut places: [usize; PLACES] = [0; PLACES];
+    let mut exponents: [i32; MOST_TERMS] = [0; MOST_TERMS];
+    let mut names: [u8; NAME_PLACES] = [0; NAME_PLACES];
+    let mut sums: [i64; SUMS] = [0; SUMS];
     let a = read(
         notation,
         label,

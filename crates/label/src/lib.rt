@@ -1,5 +1,13 @@
 // Unit labels. The definitions of specs/ say what a label means; this file has the types that they share with the code.
 
+// The most bytes and the most terms that a label may have (document 01, numbers that bound a label).
+pub const MOST_BYTES: usize = 255;
+
+pub const MOST_TERMS: usize = 32;
+
+// One is so many parts: exponents are counted in sixtieths.
+pub const PARTS_OF_ONE: u64 = 60;
+
 // An exponent, counted in sixtieths.
 pub struct Exponent(pub i32);
 

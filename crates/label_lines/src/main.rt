@@ -1,4 +1,5 @@
 // The line program: answers each line of standard input by a line of standard output.
+use lines::input::MOST_KEPT;
 use lines::input::feed;
 use lines::input::finish;
 ghost use mathlib.Core.Path.{_≡_};
@@ -11,7 +12,7 @@ struct ChunkPassed {
 }
 
 // Uses a chunk to its end. The answers are written as often as the buffer for them is full, and after the chunk.
-fn pass(chunk: &[u8], line: &mut [u8; 513], kept: usize, out: &mut [u8]) -> ChunkPassed
+fn pass(chunk: &[u8], line: &mut [u8; MOST_KEPT], kept: usize, out: &mut [u8]) -> ChunkPassed
     requires { ⌜ length (now out) ≡ 65536 ⌝ }
 {
     let mut used = 0;
@@ -38,13 +39,13 @@ fn pass(chunk: &[u8], line: &mut [u8; 513], kept: usize, out: &mut [u8]) -> Chun
 }
 
 // Answers the last line where it has no newline.
-fn end(line: &[u8; 513], kept: usize, out: &mut [u8]) -> bool {
+fn end(line: &[u8; MOST_KEPT], kept: usize, out: &mut [u8]) -> bool {
     let written = finish(line, kept, out);
     io::write_all(1, &out[0..written])
 }
 
 // Reads to the end of the input, and answers whether all could be read and written. The turns are more than a program makes.
-fn answer_all(input: &mut [u8], line: &mut [u8; 513], out: &mut [u8]) -> bool
+fn answer_all(input: &mut [u8], line: &mut [u8; MOST_KEPT], out: &mut [u8]) -> bool
     requires { ⌜ length (now out) ≡ 65536 ⌝ }
 {
     let mut kept = 0;
@@ -71,7 +72,7 @@ fn answer_all(input: &mut [u8], line: &mut [u8; 513], out: &mut [u8]) -> bool
 fn main() {
     let mut input = io::large_buffer();
     let mut out = io::large_buffer();
-    let mut line = [0u8; 513];
+    let mut line = [0u8; MOST_KEPT];
     if !answer_all(&mut input, &mut line, &mut out) {
         io::write_all(2, b"label-lines: input or output failed\n");
     }

@@ -5,13 +5,13 @@ use mathlib.Core.List.{List, [], _++_}
 use lib.Dec.{ltb}
 use lib.ListN.{length, take, drop}
 use Rattle.label.specs.Choice.{pick}
-use Rattle.label.specs.Lines.{output-after}
+use Rattle.label.specs.Lines.{most-line, output-after}
 use Rattle.lines.specs.declared.input.Fed.{Fed}
 use Rattle.lines.specs.Writing.{most-answer, Puts}
 
 -- so many bytes of an unfinished line are kept: one more than a line may have
 abbrev pub most-kept : ℕ
-most-kept = 513
+most-kept = most-line + 1
 
 -- the bytes u are appended to the unfinished line, the first `kept` bytes of `line`
 pub record Keeps (u line : List ℕ) (kept : ℕ) (line′ : List ℕ) (size : ℕ) : Type 0 where

@@ -1,12 +1,13 @@
 -- Texts that are put over the start of a buffer.
-use Prim.Native.Nat.{ℕ, _≤_}
+use Prim.Native.Nat.{ℕ, _+_, _-_, _≤_}
 use mathlib.Core.Path.{_≡_}
 use mathlib.Core.List.{List, [], _∷_, _++_}
 use lib.Dec.{ltb}
 use lib.ListN.{length, drop}
 use Rattle.label.specs.Bytes.{tab}
 use Rattle.label.specs.Choice.{pick}
-use Rattle.label.specs.Lines.{decimal, answer}
+use Rattle.label.specs.Limits.{most-bytes}
+use Rattle.label.specs.Lines.{decimal, most-line, answer}
 
 -- the text t is put over the start of the buffer b, which is c then, and has `size` bytes
 pub record Puts (t b c : List ℕ) (size : ℕ) : Type 0 where
@@ -17,9 +18,13 @@ pub record Puts (t b c : List ℕ) (size : ℕ) : Type 0 where
 unfoldable pub number-text : ℕ → List ℕ
 number-text n = tab ∷ decimal n ++ tab ∷ []
 
--- a line's answer has at most so many bytes
+-- an id has at most so many bytes: three of a line are tabs
+abbrev pub most-id : ℕ
+most-id = most-line - 3
+
+-- an answer has at most an id, two tabs, a 0 and a result
 abbrev pub most-answer : ℕ
-most-answer = 767
+most-answer = most-id + 3 + most-bytes
 
 -- the answer to a line, or nothing where the buffer is too short for some answer
 pub record AnswersLine (s b c : List ℕ) (size : ℕ) : Type 0 where

@@ -6,10 +6,19 @@ use rewriting::rewrite::rewrite;
 ghost use Prim.Native.Nat.{_≤_};
 ghost use mathlib.Core.Path.{_≡_};
 ghost use lib.ListN.{length};
+ghost use Rattle.label.specs.Limits.{most-bytes};
 ghost use Rattle.label.specs.Writing.{rewriting};
 ghost use Rattle.label.specs.Lines as spec;
 ghost use Rattle.lines.specs.Fields.{FieldEnd};
-ghost use Rattle.lines.specs.Writing.{Puts, AnswersLine};
+ghost use Rattle.lines.specs.Writing.{most-id, most-answer, Puts, AnswersLine};
+
+// The most bytes of a line without its newline (document 01), and of an answer: 509 of an id, two tabs, a 0 and 255 of a result.
+pub const MOST_LINE: usize = 512;
+
+pub const MOST_ANSWER: usize = 767;
+
+// The refusal of a line that is too long or has not three tabs.
+const MALFORMED: u32 = 15;
 
 // Where the field that begins at `from` ends: at the next tab or at the line's end.
 fn field_end(line: &[u8], from: usize) -> usize
@@ -21,7 +30,7 @@ fn field_end(line: &[u8], from: usize) -> usize
 
 // Rewrites a text into a buffer that has room for every result.
 fn put_result(source: u32, text: &[u8], target: u32, out: &mut [u8]) -> Rewritten
-    requires { ⌜ 255 ≤ length (now out) ⌝ }
+    requires { ⌜ most-bytes ≤ length (now out) ⌝ }
     ensures { λ r. ⌜ r .number ≡ rewriting source (now (text .entry)) target .number ⌝ }
     ensures { λ r. ⌜ Puts (rewriting source (now (text .entry)) target .text) (now (out .entry)) (now (out .exit)) (r .length) ⌝ }
 {
@@ -30,10 +39,10 @@ fn put_result(source: u32, text: &[u8], target: u32, out: &mut [u8]) -> Rewritte
 
 // Puts the answer to the four fields of a line over the start of `out`. A result begins three bytes after the id, since its number is 0.
 fn put_answer(id: &[u8], source: &[u8], text: &[u8], target: &[u8], out: &mut [u8]) -> usize
-    requires { ⌜ (length (now id) ≤ 509) × (767 ≤ length (now out)) ⌝ }
+    requires { ⌜ (length (now id) ≤ most-id) × (most-answer ≤ length (now out)) ⌝ }
     ensures { λ r. ⌜ Puts (spec.answer-with (now (id .entry)) (rewriting (spec.notation-named (now (source .entry))) (now (text .entry)) (spec.notation-named (now (target .entry)))))
         (now (out .entry)) (now (out .exit)) r ⌝ }
-    ensures { λ r. ⌜ r ≤ 767 ⌝ }
+    ensures { λ r. ⌜ r ≤ most-answer ⌝ }
 {
     let number_at = bytes::copy(id, out);
     let result_at = number_at + 3;
@@ -44,32 +53,32 @@ fn put_answer(id: &[u8], source: &[u8], text: &[u8], target: &[u8], out: &mut [u
     number_at + size + a.length as usize
 }
 
-// Puts the answer to a line over the start of `out`, and answers how many bytes it has. An answer has at most 767 bytes: 509 of an id, two tabs,
-// a 0 and 255 of a result. Where `out` has fewer, nothing is put and 0 is answered.
+// Puts the answer to a line over the start of `out`, and answers how many bytes it has. Where `out` has no
+// room for the longest answer, nothing is put and 0 is answered.
 pub fn answer_line(line: &[u8], out: &mut [u8]) -> usize
     ensures { λ r. ⌜ AnswersLine (now (line .entry)) (now (out .entry)) (now (out .exit)) r ⌝ }
 {
-    if out.len() < 767 {
+    if out.len() < MOST_ANSWER {
         return 0;
     }
     let end = line.len();
-    if 512 < end {
-        return put_number(15, out);
+    if MOST_LINE < end {
+        return put_number(MALFORMED, out);
     }
     let first = field_end(line, 0);
     if end <= first {
-        return put_number(15, out);
+        return put_number(MALFORMED, out);
     }
     let second = field_end(line, first + 1);
     if end <= second {
-        return put_number(15, out);
+        return put_number(MALFORMED, out);
     }
     let third = field_end(line, second + 1);
     if end <= third {
-        return put_number(15, out);
+        return put_number(MALFORMED, out);
     }
     if field_end(line, third + 1) < end {
-        return put_number(15, out);
+        return put_number(MALFORMED, out);
     }
     let source = first + 1;
     let text = second + 1;

@@ -12,16 +12,17 @@ use Rattle.label.specs.Reading.{exponent, up-to, dimensions-of, refusal, term, 
 use Rattle.label.specs.Reading as spec
 use Rattle.label.proofs.Refusals.{bounds, Outcome, outcome}
 use Rattle.label.proofs.Lettering.{TermSpelt, reading-spelt}
-use Rattle.descent.specs.Terms.{Lent, lent, count}
-use Rattle.content.specs.declared.verdicts.Verdicts.{Verdicts}
+use Rattle.label.specs.Units.{base-count}
+use Rattle.descent.specs.Terms.{Lent, lent, count, count-in}
 use Rattle.checks.specs.declared.check.Checked.{Checked}
-use Rattle.reading.specs.declared.read.Answer.{Answer}
-use Rattle.content.specs.Views.{term-in, terms-in}
+use Rattle.checks.specs.Checks.{units-in, Checks}
+use Rattle.content.specs.declared.verdicts.Verdicts.{Verdicts}
+use Rattle.content.specs.Views.{term-in, terms-in, unit-in}
 use Rattle.content.specs.Named.{Nameable, LettersIn, NoLetters, AllNamed}
 use Rattle.content.specs.Totals.{AddedUp}
 use Rattle.content.specs.Verdicts.{VerdictsOn}
 use Rattle.content.proofs.Naming.{all-in-at, terms-length, nth-term}
-use Rattle.checks.specs.Checks.{units-in, Checks}
+use Rattle.reading.specs.declared.read.Answer.{Answer}
 use Rattle.reading.proofs.Lettering.{spelt-at, letters-some, noted-at}
 use Rattle.reading.specs.Views.{reading-in}
 use Rattle.reading.specs.Answers.{answer, refused-answer, ReadingAnswer}
@@ -30,13 +31,13 @@ use Rattle.reading.specs.Answers.{answer, refused-answer, ReadingAnswer}
 pub record AcceptedAnswer (n : ℕ) (s : List ℕ) (k : Tens) (t : Lent) (x : List ℕ) (ds cs : List ℤ) (v : Verdicts) : Type 0 where
   pub is : reading-in s t x ds cs (answer k v) ≡ reading-of n k (map (term n (length s)) (units-in s t))
   pub primes : length cs ≡ 4
-  pub letters : (i : ℕ) → i < count t → getD x (32 + i) 0 ≡ 0 → LettersIn s t x i
-  pub no-letters : (i : ℕ) → i < count t → 0 < getD x (32 + i) 0 → NoLetters x i
+  pub letters : (i : ℕ) → i < count t → unit-in x i ≡ 0 → LettersIn s t x i
+  pub no-letters : (i : ℕ) → i < count t → 0 < unit-in x i → NoLetters x i
 
 pub accepted₁ : {n : ℕ} {s p : List ℕ} {k : Tens} {e : List ℤ} {x : List ℕ} {v : Verdicts} {zs : List ℤ} → AllNamed n s (lent p e) x
     → ((s : List ℕ) (t : Lent) → VerdictsOn n (terms-in s t x (count (lent p e))) v)
     → AddedUp k e x (count (lent p e)) zs
-    → AcceptedAnswer n s k (lent p e) x (take 32 zs) (drop 32 zs) v
+    → AcceptedAnswer n s k (lent p e) x (take base-count zs) (drop base-count zs) v
 unfolding reading-in reading-of
 accepted₁ {n} {s} {p} {k} {e} w v a = record {
   is = rw (v s (lent p e) .known-is, v s (lent p e) .lawful-is, v s (lent p e) .recommended-is, a .dimensions s p, a .scale s p, w .is);
@@ -100,7 +101,7 @@ module _ {n : ℕ} {s : List ℕ} {z : Lent} {c : Checked} (w : Checks n s z c) 
         spelt : (i : ℕ) → i < count z → TermSpelt s (term-in s z x i)
         spelt i h = spelt-at s z x (count z) i (rw (← ap (λ (u : spec.Reading). u .terms) whole) at (reading-spelt n s)) h
 
-pub read-few : {n : ℕ} {s p : List ℕ} {e : List ℤ} {c : Checked} → Checks n s (lent p e) c → not (c .ok) ≡ false → getD p 64 0 ≤ 32
+pub read-few : {n : ℕ} {s p : List ℕ} {e : List ℤ} {c : Checked} → Checks n s (lent p e) c → not (c .ok) ≡ false → count-in p ≤ 32
 read-few w t = read-nameable w t .few
 
 -- WHAT THE ARRAYS HOLD

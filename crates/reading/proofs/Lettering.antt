@@ -15,8 +15,8 @@ use Rattle.label.proofs.Basics.{run-past}
 use Rattle.label.proofs.Lettering.{SpelledAs, TermSpelt, AllSpelt, before-plain, before-quoted}
 use Rattle.label.proofs.Between.{length-between}
 use Rattle.symbols.specs.Views.{place, LettersAt}
-use Rattle.descent.specs.Terms.{Lent}
-use Rattle.content.specs.Views.{by-code, symbol-at, term-in, terms-in}
+use Rattle.descent.specs.Terms.{Lent, start-at, end-at}
+use Rattle.content.specs.Views.{by-code, symbol-at, term-in, terms-in, prefix-at, unit-in, letters-at, letters-end}
 use Rattle.content.specs.Named.{LettersIn, NoLetters}
 use Rattle.reading.specs.Answers.{LettersNoted}
 
@@ -48,12 +48,12 @@ between-some s a z h = go (decLt a z)
     go (yes l) = l
     go (no l) = let e : z - a ≡ 0 = omega arith in absurd (omega (arith, rw e at h))
 
-pub letters-some : (s : List ℕ) (t : Lent) (x : List ℕ) (i : ℕ) → TermSpelt s (term-in s t x i) → getD x (32 + i) 0 ≡ 0
-    → getD x (64 + i) 0 < getD x (96 + i) 0
+pub letters-some : (s : List ℕ) (t : Lent) (x : List ℕ) (i : ℕ) → TermSpelt s (term-in s t x i) → unit-in x i ≡ 0
+    → letters-at x i < letters-end x i
 unfolding symbol-at
 letters-some s t x i w e =
-    between-some s (getD x (64 + i) 0) (getD x (96 + i) 0)
-    (some-by-code (getD x (32 + i) 0) (place (getD x i 0)) (between s (getD x (64 + i) 0) (getD x (96 + i) 0)) e (w .spelt))
+    between-some s (letters-at x i) (letters-end x i)
+    (some-by-code (unit-in x i) (place (prefix-at x i)) (between s (letters-at x i) (letters-end x i)) e (w .spelt))
 
 -- WHERE THE LETTERS ARE
 
@@ -91,11 +91,11 @@ module _ (s : List ℕ) (start end first last : ℕ) (p : Option ℕ) where
     letters-noted zero u v w = let h = u refl in unknown-noted (h .0) (h .1 .0) (h .1 .1) w
     letters-noted (suc c) u v w = let h = v (omega arith) in (h .0, h .1)
 
-pub noted-at : (s : List ℕ) (t : Lent) (x : List ℕ) (i : ℕ) → getD (t .places) i 0 ≤ getD (t .places) (32 + i) 0 → getD (t .places) (32 + i) 0 ≤ length s
-    → (getD x (32 + i) 0 ≡ 0 → LettersIn s t x i) → (0 < getD x (32 + i) 0 → NoLetters x i) → TermSpelt s (term-in s t x i) → LettersNoted s t x i
+pub noted-at : (s : List ℕ) (t : Lent) (x : List ℕ) (i : ℕ) → start-at (t .places) i ≤ end-at (t .places) i → end-at (t .places) i ≤ length s
+    → (unit-in x i ≡ 0 → LettersIn s t x i) → (0 < unit-in x i → NoLetters x i) → TermSpelt s (term-in s t x i) → LettersNoted s t x i
 unfolding symbol-at
 noted-at s t x i f g u v w =
-    let r = letters-noted s (getD (t .places) i 0) (getD (t .places) (32 + i) 0) (getD x (64 + i) 0) (getD x (96 + i) 0) (place (getD x i 0))
-    (w .there) (w .sized) f g (getD x (32 + i) 0)
+    let r = letters-noted s (start-at (t .places) i) (end-at (t .places) i) (letters-at x i) (letters-end x i) (place (prefix-at x i))
+    (w .there) (w .sized) f g (unit-in x i)
     (λ e. let o = u e in (o .forward, (o .upto, o .there))) (λ h. let o = v h in (o .start, o .end)) (w .spelt) in
     record { start = r .0; end = r .1 }

@@ -1,10 +1,16 @@
 // What reading a label answers.
 use checks::check::check;
+use content::named::NAME_PLACES;
 use content::named::all_named;
+use content::sums::SUMS;
 use content::totals::add_up;
 use content::verdicts::verdicts_on;
+use descent::terms::COUNT;
+use descent::terms::PLACES;
+use label::MOST_TERMS;
 use label::Tens;
 ghost use lib.ListN.{take, drop};
+ghost use Rattle.label.specs.Units.{base-count};
 ghost use Rattle.descent.specs.Terms.{lent};
 ghost use Rattle.reading.specs.Answers.{Fresh, ReadingAnswer};
 
@@ -24,14 +30,14 @@ pub struct Answer {
 pub fn read(
     n: u32,
     s: &[u8],
-    places: &mut [usize; 66],
-    exponents: &mut [i32; 32],
-    names: &mut [u8; 128],
-    sums: &mut [i64; 36],
+    places: &mut [usize; PLACES],
+    exponents: &mut [i32; MOST_TERMS],
+    names: &mut [u8; NAME_PLACES],
+    sums: &mut [i64; SUMS],
 ) -> Answer
     requires { ⌜ Fresh (lent (now places) (now exponents)) (now names) (now sums) ⌝ }
     ensures { λ r. ⌜ ReadingAnswer n (now (s .entry)) (lent (now (places .exit)) (now (exponents .exit)))
-        (now (names .exit)) (take 32 (now (sums .exit))) (drop 32 (now (sums .exit))) r ⌝ }
+        (now (names .exit)) (take base-count (now (sums .exit))) (drop base-count (now (sums .exit))) r ⌝ }
 {
     let c = check(n, s, places, exponents);
     if !c.ok {
@@ -44,7 +50,7 @@ pub fn read(
         };
     }
     let k = c.k;
-    let count = places[64];
+    let count = places[COUNT];
     all_named(n as u8, s, places, exponents, names);
     add_up(k, count, exponents, names, sums);
     let v = verdicts_on(n as u8, count, names);

@@ -11,11 +11,11 @@ use mir.Facts.{toZ-pos}
 use lib.ListN.{getD}
 use Rattle.label.specs.Ranges.{between}
 use Rattle.label.specs.Letters.{letters-start, letters-size}
-use Rattle.symbols.specs.Views.{place}
-use Rattle.descent.specs.Terms.{lent}
-use Rattle.content.specs.Views.{by-code, symbol-at, term-in}
-use Rattle.content.proofs.Integers.{widened-is}
 use Rattle.label.specs.declared.Tens.{Tens}
+use Rattle.symbols.specs.Views.{place}
+use Rattle.descent.specs.Terms.{lent, start-at, end-at}
+use Rattle.content.specs.Views.{by-code, symbol-at, term-in, prefix-at, unit-in, letters-at, letters-end}
+use Rattle.content.proofs.Integers.{widened-is}
 use Rattle.reading.specs.Answers.{LettersNoted}
 use Rattle.record.specs.Record.{flag, code, prefix-code, unit-code, term-fields, head-of}
 use Rattle.record.specs.Recordable.{Sized}
@@ -31,36 +31,36 @@ code-place zero = refl
 code-place (suc p) = refl
 
 module _ (s x : List ℕ) (i : ℕ) where
-  prefix-is : prefix-code (symbol-at s x i) ≡ getD x i 0
+  prefix-is : prefix-code (symbol-at s x i) ≡ prefix-at x i
   unfolding symbol-at by-code prefix-code
-  prefix-is = go (getD x (32 + i) 0) (getD x i 0)
+  prefix-is = go (unit-in x i) (prefix-at x i)
     where
-      go : (u p : ℕ) → prefix-code (by-code u (place p) (between s (getD x (64 + i) 0) (getD x (96 + i) 0))) ≡ p
+      go : (u p : ℕ) → prefix-code (by-code u (place p) (between s (letters-at x i) (letters-end x i))) ≡ p
       go zero p = code-place p
       go (suc u) p = code-place p
 
-  unit-is : unit-code (symbol-at s x i) ≡ getD x (32 + i) 0
+  unit-is : unit-code (symbol-at s x i) ≡ unit-in x i
   unfolding symbol-at by-code unit-code
-  unit-is = go (getD x (32 + i) 0)
+  unit-is = go (unit-in x i)
     where
-      go : (u : ℕ) → unit-code (by-code u (place (getD x i 0)) (between s (getD x (64 + i) 0) (getD x (96 + i) 0))) ≡ u
+      go : (u : ℕ) → unit-code (by-code u (place (prefix-at x i)) (between s (letters-at x i) (letters-end x i))) ≡ u
       go zero = refl
       go (suc u) = refl
 
 -- TERMS
 
 module _ {s p : List ℕ} {e : List ℤ} {x : List ℕ} {i : ℕ} (w : LettersNoted s (lent p e) x i) where
-  first-is : getD x (64 + i) 0 ≡ letters-start (term-in s (lent p e) x i)
+  first-is : letters-at x i ≡ letters-start (term-in s (lent p e) x i)
   first-is = w .start
 
-  size-is : getD x (96 + i) 0 - getD x (64 + i) 0 ≡ letters-size (term-in s (lent p e) x i)
+  size-is : letters-end x i - letters-at x i ≡ letters-size (term-in s (lent p e) x i)
   size-is = omega (arith, w .start, w .end)
 
 module _ {p : List ℕ} {e : List ℤ} (x : List ℕ) {i : ℕ} (h : Sized (lent p e) x i) {u v y z : ℕ} where
   pub term-is : u < 2 ^ 8 → v < 2 ^ 8 → y < 2 ^ 8 → z < 2 ^ 8
-      → u ≡ getD x i 0 → v ≡ getD x (32 + i) 0 → y ≡ getD x (64 + i) 0 → z ≡ getD x (96 + i) 0
+      → u ≡ prefix-at x i → v ≡ unit-in x i → y ≡ letters-at x i → z ≡ letters-end x i
       → SFits w32 (getD e i (pos 0)) → (s : List ℕ) → LettersNoted s (lent p e) x i
-      → toZ w64 u ∷ toZ w64 v ∷ toZ w64 (ofZ w64 (toZ w32 (ofZ w32 (getD e i (pos 0))))) ∷ toZ w64 (getD p i 0) ∷ toZ w64 (getD p (32 + i) 0 - getD p i 0)
+      → toZ w64 u ∷ toZ w64 v ∷ toZ w64 (ofZ w64 (toZ w32 (ofZ w32 (getD e i (pos 0))))) ∷ toZ w64 (start-at p i) ∷ toZ w64 (end-at p i - start-at p i)
       ∷ toZ w64 y ∷ toZ w64 (z - y) ∷ []
       ≡ term-fields (term-in s (lent p e) x i)
   unfolding term-fields
@@ -77,8 +77,8 @@ module _ {p : List ℕ} {e : List ℤ} (x : List ℕ) {i : ℕ} (h : Sized (lent
         size-is c,
         first-is c,
         widened-is w,
-        held (getD p i 0) (omega (arith, h .forward, h .short)),
-        held (getD p (32 + i) 0 - getD p i 0) (omega (arith, h .short)),
+        held (start-at p i) (omega (arith, h .forward, h .short)),
+        held (end-at p i - start-at p i) (omega (arith, h .short)),
         prefix-is s x i,
         unit-is s x i,
       )

@@ -8,17 +8,18 @@ use lib.ListN.{length, take, drop, replicate, length-drop, take-append-drop}
 use lib.Seq.{take-all}
 use Rattle.label.specs.Reading as spec
 use Rattle.label.specs.Reading.{exponent}
+use Rattle.label.specs.Limits.{most-terms}
+use Rattle.label.specs.Units.{base-count}
 use Rattle.descent.specs.Terms.{Lent, count}
 use Rattle.content.specs.Views.{term-in, terms-in, scale-in}
 use Rattle.content.proofs.Naming.{terms-length}
 use Rattle.content.proofs.Naming.{terms-more as one-more}
+use Rattle.content.specs.Sums.{prime-count, sum-count}
 use Rattle.reading.specs.declared.read.Answer.{Answer}
 use Rattle.reading.specs.Views.{reading-in}
-use Rattle.label.specs.Limits.{most-terms}
-use Rattle.label.specs.Units.{base-count}
 use Rattle.reading.specs.Answers.{LettersNoted}
 use Rattle.record.specs.Recordable.{AllNoted}
-use Rattle.record.specs.Record.{field-size, fields-in-head, fields-in-term, fields-in-scale, head-size, term-place, dimensions-place, record-size}
+use Rattle.record.specs.Record.{field-size, fields-in-head, fields-in-term, head-size, term-place, dimensions-place, record-size}
 use Rattle.record.specs.Record.{complement, digits, eight, encoded, term-fields, terms-fields, empty-fields, sixtieths-of, scale-fields, head-of, head-fields, fields, record-of}
 
 pub encoded-join : (xs ys : List ℤ) → encoded (xs ++ ys) ≡ encoded xs ++ encoded ys
@@ -85,7 +86,7 @@ to-left : (a b c d : List ℕ) → a ++ (b ++ (c ++ d)) ≡ a ++ b ++ c ++ d
 to-left a b c d = sym (append-assoc a b (c ++ d)) ∙ sym (append-assoc (a ++ b) c d)
 
 module _ (head ts sums : List ℤ) (count : ℕ) (b₀ b₁ b₂ b₃ b₄ : List ℕ) where
-  pub joined-is : length head ≡ fields-in-head → length sums ≡ base-count + fields-in-scale → length b₄ ≡ record-size
+  pub joined-is : length head ≡ fields-in-head → length sums ≡ sum-count → length b₄ ≡ record-size
       → take (0 + field-size * length head) b₁ ≡ take 0 b₀ ++ encoded head
       → take (term-place count) b₂ ≡ take head-size b₁ ++ encoded ts
       → take dimensions-place b₃ ≡ take (term-place count) b₂ ++ encoded (empty-fields (most-terms - count))
@@ -120,10 +121,10 @@ same-scale (a ∷ b ∷ c ∷ []) h = absurd (omega arith)
 same-scale (a ∷ b ∷ c ∷ d ∷ e ∷ es) h = absurd (omega arith)
 
 -- the numbers of a reading, from its parts
-pub fields-are : (s : List ℕ) (t : Lent) (x : List ℕ) (zs : List ℤ) (a : Answer) {h : List ℤ} → length zs ≡ base-count + fields-in-scale
+pub fields-are : (s : List ℕ) (t : Lent) (x : List ℕ) (zs : List ℤ) (a : Answer) {h : List ℤ} → length zs ≡ sum-count
     → h ≡ head-of (a .number) (a .k) (a .known) (a .lawful) (a .recommended) (count t)
-    → encoded (h ++ (terms-fields (terms-in s t x (count t)) ++ (empty-fields (most-terms - count t) ++ zs))) ≡ record-of (reading-in s t x (take 32 zs) (drop 32 zs) a)
+    → encoded (h ++ (terms-fields (terms-in s t x (count t)) ++ (empty-fields (most-terms - count t) ++ zs))) ≡ record-of (reading-in s t x (take base-count zs) (drop base-count zs) a)
 unfolding reading-in head-fields fields record-of
 fields-are s t x zs a e q =
-    let c : length (drop 32 zs) ≡ 4 = omega (arith, e, length-drop 32 zs) in
-    rw (q, terms-length s t x (count t), same-sixtieths (take 32 zs), same-scale (drop 32 zs) c, take-append-drop 32 zs)
+    let c : length (drop base-count zs) ≡ prime-count = omega (arith, e, length-drop base-count zs) in
+    rw (q, terms-length s t x (count t), same-sixtieths (take base-count zs), same-scale (drop base-count zs) c, take-append-drop base-count zs)

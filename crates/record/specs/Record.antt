@@ -16,6 +16,7 @@ use Rattle.label.specs.Symbols.{Symbol, known, unknown}
 use Rattle.label.specs.Units.{base-count}
 use Rattle.label.specs.Reading.{Term, Scale, Reading, reading}
 use Rattle.label.specs.Letters.{letters-start, letters-of, letters-size}
+use Rattle.content.specs.Sums.{prime-count}
 
 -- A NUMBER IN EIGHT BYTES
 
@@ -60,9 +61,6 @@ fields-in-head = 6
 
 abbrev pub fields-in-term : ℕ
 fields-in-term = 7
-
-abbrev pub fields-in-scale : ℕ
-fields-in-scale = 4
 
 abbrev pub flag : Bool → ℤ
 flag true = pos 1
@@ -155,7 +153,7 @@ abbrev pub scale-place : ℕ
 scale-place = dimensions-place + field-size * base-count
 
 abbrev pub record-size : ℕ
-record-size = scale-place + field-size * fields-in-scale
+record-size = scale-place + field-size * prime-count
 
 -- THE LENT BUFFER
 

@@ -3,18 +3,18 @@ use Prim.Native.Nat.{ℕ, _+_, _≤_, _<_}
 use mathlib.Core.Path.{_≡_}
 use mathlib.Core.List.{List}
 use lib.IntN.{ℤ}
-use lib.ListN.{length, getD}
+use lib.ListN.{length}
 use Rattle.label.specs.Limits.{most-bytes, most-terms}
-use Rattle.label.specs.Units.{base-count}
-use Rattle.descent.specs.Terms.{Lent, count}
+use Rattle.descent.specs.Terms.{Lent, count, start-at, end-at}
+use Rattle.content.specs.Views.{letters-at, letters-end}
+use Rattle.content.specs.Sums.{sum-count}
 use Rattle.reading.specs.Answers.{LettersNoted}
-use Rattle.record.specs.Record.{fields-in-scale}
 
 -- the spelling of term i ends after its start, in a label of at most 255 bytes, and so do its letters
 pub record Sized (t : Lent) (x : List ℕ) (i : ℕ) : Type 0 where
-  pub forward : getD (t .places) i 0 ≤ getD (t .places) (32 + i) 0
-  pub short : getD (t .places) (32 + i) 0 ≤ most-bytes
-  pub letters : getD x (64 + i) 0 ≤ getD x (96 + i) 0
+  pub forward : start-at (t .places) i ≤ end-at (t .places) i
+  pub short : end-at (t .places) i ≤ most-bytes
+  pub letters : letters-at x i ≤ letters-end x i
 
 -- the letters of the first n terms are noted where the label s has them
 pub record AllNoted (s : List ℕ) (t : Lent) (x : List ℕ) (n : ℕ) : Type 0 where
@@ -23,4 +23,4 @@ pub record AllNoted (s : List ℕ) (t : Lent) (x : List ℕ) (n : ℕ) : Type 0 
 pub record Recordable (t : Lent) (x : List ℕ) (zs : List ℤ) : Type 0 where
   pub few : count t ≤ most-terms
   pub sized : (i : ℕ) → i < count t → Sized t x i
-  pub sums : length zs ≡ base-count + fields-in-scale
+  pub sums : length zs ≡ sum-count

@@ -1,11 +1,16 @@
 // The buffer that a caller lends.
 use crate::record::RECORD_SIZE;
 use crate::record::put_record;
+use content::named::NAME_PLACES;
+use content::sums::SUMS;
+use descent::terms::PLACES;
+use label::MOST_TERMS;
 use reading::read::Answer;
 ghost use mathlib.Core.Path.{_≡_};
 ghost use mathlib.Core.List.{List};
 ghost use Prim.Native.Nat.{ℕ};
 ghost use lib.ListN.{take, drop, getD};
+ghost use Rattle.label.specs.Units.{base-count};
 ghost use Rattle.descent.specs.Terms.{lent};
 ghost use Rattle.reading.specs.Views.{reading-in};
 ghost use Rattle.record.specs.Record.{record-of, written-over};
@@ -15,15 +20,15 @@ ghost use Rattle.record.specs.Recordable.{AllNoted, Recordable};
 pub fn write_record(
     buffer: &mut [u8],
     a: Answer,
-    places: &[usize; 66],
-    exponents: &[i32; 32],
-    names: &[u8; 128],
-    sums: &[i64; 36],
+    places: &[usize; PLACES],
+    exponents: &[i32; MOST_TERMS],
+    names: &[u8; NAME_PLACES],
+    sums: &[i64; SUMS],
 )
     requires { ⌜ Recordable (lent (now places) (now exponents)) (now names) (now sums) ⌝ }
     ensures { λ _. ⌜ ((s : List ℕ) → AllNoted s (lent (now (places .entry)) (now (exponents .entry))) (now (names .entry)) (getD (now (places .entry)) 64 0)
         → now (buffer .exit) ≡ written-over (record-of (reading-in s
-        (lent (now (places .entry)) (now (exponents .entry))) (now (names .entry)) (take 32 (now (sums .entry))) (drop 32 (now (sums .entry))) a))
+        (lent (now (places .entry)) (now (exponents .entry))) (now (names .entry)) (take base-count (now (sums .entry))) (drop base-count (now (sums .entry))) a))
         (now (buffer .entry))) ⌝ }
 {
     if buffer.len() < RECORD_SIZE {

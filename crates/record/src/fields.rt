@@ -1,5 +1,12 @@
 // The numbers of a reading.
+use content::named::LETTER_ENDS;
+use content::named::LETTER_STARTS;
+use content::named::NAME_PLACES;
+use content::named::UNIT_CODES;
 use content::named::number_at;
+use descent::terms::ENDS;
+use descent::terms::PLACES;
+use label::MOST_TERMS;
 use reading::read::Answer;
 ghost use Prim.Native.Nat.{ℕ, _≤_, _<_};
 ghost use mathlib.Core.Path.{_≡_};
@@ -28,9 +35,9 @@ fn flag(b: bool) -> i64
 
 // The numbers of term `i`.
 pub fn term_fields(
-    places: &[usize; 66],
-    exponents: &[i32; 32],
-    names: &[u8; 128],
+    places: &[usize; PLACES],
+    exponents: &[i32; MOST_TERMS],
+    names: &[u8; NAME_PLACES],
     i: usize,
 ) -> [i64; TERM_FIELDS]
     requires { ⌜ (i < most-terms) × Sized (lent (now places) (now exponents)) (now names) i ⌝ }
@@ -39,11 +46,11 @@ pub fn term_fields(
         → r ≡ spec.term-fields (term-in s (lent (now (places .entry)) (now (exponents .entry))) (now (names .entry)) i)) ⌝ }
 {
     let prefix = number_at(names, i);
-    let unit = number_at(names, 32 + i);
+    let unit = number_at(names, UNIT_CODES + i);
     let start = places[i];
-    let end = places[32 + i];
-    let first = number_at(names, 64 + i);
-    let last = number_at(names, 96 + i);
+    let end = places[ENDS + i];
+    let first = number_at(names, LETTER_STARTS + i);
+    let last = number_at(names, LETTER_ENDS + i);
     [
         prefix as i64,
         unit as i64,

@@ -5,12 +5,18 @@ use crate::fields::head_fields;
 use crate::fields::term_fields;
 use crate::numbers::clear;
 use crate::numbers::put_all;
+use content::named::NAME_PLACES;
+use content::sums::SUMS;
+use descent::terms::COUNT;
+use descent::terms::PLACES;
+use label::MOST_TERMS;
 use reading::read::Answer;
 ghost use Prim.Native.Nat.{ℕ, _+_, _*_, _-_, _≤_, _<_};
 ghost use mathlib.Core.Path.{_≡_};
 ghost use mathlib.Core.List.{List, _++_};
 ghost use lib.ListN.{length, take, drop, getD};
 ghost use Rattle.label.specs.Limits.{most-terms};
+ghost use Rattle.label.specs.Units.{base-count};
 ghost use Rattle.descent.specs.Terms.{lent};
 ghost use Rattle.content.specs.Views.{terms-in};
 ghost use Rattle.reading.specs.Views.{reading-in};
@@ -19,12 +25,6 @@ ghost use Rattle.record.specs.Recordable.{Sized, AllNoted, Recordable};
 
 const FIELD_SIZE: usize = 8;
 
-const MOST_TERMS: usize = 32;
-
-const BASES: usize = 32;
-
-const PRIMES: usize = 4;
-
 // Places in the record, in bytes.
 const HEAD_SIZE: usize = FIELD_SIZE * HEAD_FIELDS;
 
@@ -32,15 +32,15 @@ const TERM_SIZE: usize = FIELD_SIZE * TERM_FIELDS;
 
 const DIMENSIONS_PLACE: usize = HEAD_SIZE + TERM_SIZE * MOST_TERMS;
 
-pub const RECORD_SIZE: usize = DIMENSIONS_PLACE + FIELD_SIZE * (BASES + PRIMES);
+pub const RECORD_SIZE: usize = DIMENSIONS_PLACE + FIELD_SIZE * SUMS;
 
 // Writes the first `count` terms.
 fn put_terms(
     b: &mut [u8],
     count: usize,
-    places: &[usize; 66],
-    exponents: &[i32; 32],
-    names: &[u8; 128],
+    places: &[usize; PLACES],
+    exponents: &[i32; MOST_TERMS],
+    names: &[u8; NAME_PLACES],
 )
     requires { ⌜ (count ≤ most-terms) × (dimensions-place ≤ length (now b)) ⌝ }
     requires { ⌜ ((i : ℕ) → i < count → Sized (lent (now places) (now exponents)) (now names) i) ⌝ }
@@ -60,17 +60,17 @@ fn put_terms(
 pub fn put_record(
     b: &mut [u8],
     a: Answer,
-    places: &[usize; 66],
-    exponents: &[i32; 32],
-    names: &[u8; 128],
-    sums: &[i64; 36],
+    places: &[usize; PLACES],
+    exponents: &[i32; MOST_TERMS],
+    names: &[u8; NAME_PLACES],
+    sums: &[i64; SUMS],
 )
     requires { ⌜ (length (now b) ≡ record-size) × Recordable (lent (now places) (now exponents)) (now names) (now sums) ⌝ }
     ensures { λ _. ⌜ ((s : List ℕ) → AllNoted s (lent (now (places .entry)) (now (exponents .entry))) (now (names .entry)) (getD (now (places .entry)) 64 0)
         → now (b .exit) ≡ record-of (reading-in s (lent (now (places .entry)) (now (exponents .entry)))
-        (now (names .entry)) (take 32 (now (sums .entry))) (drop 32 (now (sums .entry))) a)) ⌝ }
+        (now (names .entry)) (take base-count (now (sums .entry))) (drop base-count (now (sums .entry))) a)) ⌝ }
 {
-    let count = places[64];
+    let count = places[COUNT];
     let head = head_fields(a, count);
     put_all(b, 0, &head);
     put_terms(b, count, places, exponents, names);

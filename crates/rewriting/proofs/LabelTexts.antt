@@ -15,11 +15,11 @@ use Rattle.label.specs.Symbols as spec
 use Rattle.label.specs.Reading.{Term, exponent}
 use Rattle.label.specs.Writing.{Writable, factor-text, symbol-text, both-texts, unit-text, more-text, label-text, own-letters, writable}
 use Rattle.label.specs.Rows.{Style}
+use Rattle.label.proofs.Between.{drop-between}
 use Rattle.symbols.specs.declared.SymbolAt.{SymbolAt}
 use Rattle.symbols.specs.Views.{symbol-in}
-use Rattle.label.proofs.Between.{drop-between}
-use Rattle.descent.specs.Terms.{Lent, count}
-use Rattle.content.specs.Views.{by-code, symbol-at, term-in, terms-in}
+use Rattle.descent.specs.Terms.{Lent, count, start-at, end-at}
+use Rattle.content.specs.Views.{by-code, symbol-at, term-in, terms-in, prefix-at, unit-in, letters-at, letters-end}
 use Rattle.rewriting.specs.declared.form.UnitForm.{UnitForm}
 use Rattle.rewriting.specs.declared.name.Own.{Own}
 use Rattle.rewriting.specs.declared.unit.SourceTerm.{SourceTerm}
@@ -32,12 +32,12 @@ use Rattle.rewriting.proofs.TextLaws.{both-assoc, both-empty, both-star
 -- A TERM
 
 -- the unit of a term
-module _ {x : List ℕ} {i : ℕ} {r : SymbolAt} (p : r .prefix ≡ getD x i 0) (a : r .start ≡ getD x (64 + i) 0) (z : r .end ≡ getD x (96 + i) 0) where
-  pub unknown-at : r .known ≡ false → getD x (32 + i) 0 ≡ 0 → SymbolFrom x i r
+module _ {x : List ℕ} {i : ℕ} {r : SymbolAt} (p : r .prefix ≡ prefix-at x i) (a : r .start ≡ letters-at x i) (z : r .end ≡ letters-end x i) where
+  pub unknown-at : r .known ≡ false → unit-in x i ≡ 0 → SymbolFrom x i r
   unfolding symbol-in symbol-at by-code
   unknown-at k e = record { is = λ s. rw (k, p, a, z, e); unknown = λ _. e; start = a; end = z }
 
-  pub known-at : r .known ≡ true → suc (r .unit) ≡ getD x (32 + i) 0 → SymbolFrom x i r
+  pub known-at : r .known ≡ true → suc (r .unit) ≡ unit-in x i → SymbolFrom x i r
   unfolding symbol-in symbol-at by-code
   known-at k e = record { is = λ s. rw (k, p, ← e); unknown = λ q. absurd (false-true (sym q ∙ k)); start = a; end = z }
 
@@ -48,11 +48,11 @@ module _ {s p x : List ℕ} {i : ℕ} (w : TermOf s p x i) {u : SymbolAt} (v : S
     within = λ e. rw (v .end) (w .upto (v .unknown e));
   }
 
-  own-part : u .known ≡ true → own-at s p x i ≡ between s (getD p i 0 + code / 65536) (getD p (32 + i) 0)
+  own-part : u .known ≡ true → own-at s p x i ≡ between s (start-at p i + code / 65536) (end-at p i)
   unfolding own-letters symbol-in
-  own-part e = rw (← v .is s, e, ← c .size, drop-between s (getD p i 0) (getD p (32 + i) 0) (code / 65536))
+  own-part e = rw (← v .is s, e, ← c .size, drop-between s (start-at p i) (end-at p i) (code / 65536))
 
-  pub term-is : {own : Own} → OwnOf (between s (getD p i 0 + code / 65536) (getD p (32 + i) 0)) own → TermIs s p x i (record { unit = u; own = own })
+  pub term-is : {own : Own} → OwnOf (between s (start-at p i + code / 65536) (end-at p i)) own → TermIs s p x i (record { unit = u; own = own })
   term-is o = record { unit = v .is s; lettered = lettered; own = record { owns = λ e. rw (own-part e) o } }
 
 -- a term in the form that its unit takes

@@ -1,5 +1,5 @@
 -- A text that is written piece by piece into an array.
-use Prim.Native.Nat.{ℕ, _≤_, _<_}
+use Prim.Native.Nat.{ℕ, _+_, _≤_, _<_}
 use mathlib.Core.Path.{_≡_}
 use mathlib.Core.List.{List}
 use mathlib.Core.Option.{Option, none, some}
@@ -12,10 +12,10 @@ text-room = 260
 
 -- how far a text has come that is longer than the array, and one that has no form
 abbrev pub too-long : ℕ
-too-long = 261
+too-long = text-room + 1
 
 abbrev pub formless : ℕ
-formless = 262
+formless = text-room + 2
 
 -- the text o has come to the place at in the array b
 pub data HoldsText (b : List ℕ) (at : ℕ) (o : Option (List ℕ)) : Type 0 where

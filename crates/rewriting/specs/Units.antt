@@ -1,10 +1,10 @@
 -- Units of a label, and the forms that they take.
-use Prim.Native.Nat.{ℕ, _+_, _/_, _%_, _≤_, _<_}
+use Prim.Native.Nat.{ℕ, _/_, _%_, _≤_, _<_}
 use mathlib.Core.Path.{_≡_}
 use mathlib.Core.Bool.{true, false}
 use mathlib.Core.List.{List}
 use mathlib.Core.Option.{Option, some}
-use lib.ListN.{length, getD}
+use lib.ListN.{length}
 use Rattle.label.specs.Choice.{pick}
 use Rattle.label.specs.Ranges.{between}
 use Rattle.label.specs.Limits.{most-bytes, most-terms}
@@ -13,7 +13,8 @@ use Rattle.label.specs.Letters.{prefix-letters}
 use Rattle.label.specs.Writing.{name-in, both-texts, own-letters}
 use Rattle.symbols.specs.declared.SymbolAt.{SymbolAt}
 use Rattle.symbols.specs.Views.{place, symbol-in}
-use Rattle.content.specs.Views.{symbol-at}
+use Rattle.descent.specs.Terms.{start-at, end-at, count-in}
+use Rattle.content.specs.Views.{symbol-at, unit-in, letters-at, letters-end}
 use Rattle.rewriting.specs.declared.form.UnitForm.{UnitForm}
 use Rattle.rewriting.specs.declared.unit.SourceTerm.{SourceTerm}
 use Rattle.rewriting.specs.Letters.{letters-of}
@@ -57,27 +58,27 @@ pub record PlainOf (m : ℕ) (r : SourceTerm) (f : UnitForm) : Type 0 where
 -- what the array x of names has of the spelling of term i
 pub record SymbolFrom (x : List ℕ) (i : ℕ) (r : SymbolAt) : Type 0 where
   pub is : (s : List ℕ) → symbol-in s r ≡ symbol-at s x i
-  pub unknown : r .known ≡ false → getD x (32 + i) 0 ≡ 0
-  pub start : r .start ≡ getD x (64 + i) 0
-  pub end : r .end ≡ getD x (96 + i) 0
+  pub unknown : r .known ≡ false → unit-in x i ≡ 0
+  pub start : r .start ≡ letters-at x i
+  pub end : r .end ≡ letters-end x i
 
 -- term i of a label of at most 255 bytes: its spelling lies in the label, and so do the letters of an unknown unit
 pub record TermOf (s p x : List ℕ) (i : ℕ) : Type 0 where
   pub short : length s ≤ most-bytes
   pub few : i < most-terms
-  pub forward : getD p i 0 ≤ getD p (32 + i) 0
-  pub within : getD p (32 + i) 0 ≤ length s
-  pub from : getD x (32 + i) 0 ≡ 0 → getD x (64 + i) 0 ≤ getD x (96 + i) 0
-  pub upto : getD x (32 + i) 0 ≡ 0 → getD x (96 + i) 0 ≤ length s
+  pub forward : start-at p i ≤ end-at p i
+  pub within : end-at p i ≤ length s
+  pub from : unit-in x i ≡ 0 → letters-at x i ≤ letters-end x i
+  pub upto : unit-in x i ≡ 0 → letters-end x i ≤ length s
 
 -- every term of a label
 pub record AllTerms (s p x : List ℕ) : Type 0 where
-  pub few : getD p 64 0 ≤ most-terms
-  pub terms : (i : ℕ) → i < getD p 64 0 → TermOf s p x i
+  pub few : count-in p ≤ most-terms
+  pub terms : (i : ℕ) → i < count-in p → TermOf s p x i
 
 -- the letters of the name of term i
 abbrev pub own-at : List ℕ → List ℕ → List ℕ → ℕ → List ℕ
-own-at s p x i = own-letters (symbol-at s x i) (between s (getD p i 0) (getD p (32 + i) 0))
+own-at s p x i = own-letters (symbol-at s x i) (between s (start-at p i) (end-at p i))
 
 -- r is term i of the label s
 pub record TermIs (s p x : List ℕ) (i : ℕ) (r : SourceTerm) : Type 0 where

@@ -3,9 +3,12 @@ use crate::numbers::is_negative;
 use crate::numbers::magnitude;
 use crate::numbers::push_figures;
 use crate::numbers::push_sign;
+use crate::text::FORMLESS;
+use crate::text::ROOM;
 use crate::text::push;
 use crate::text::push_stars;
 use label::Exponent;
+use label::PARTS_OF_ONE;
 use notations::rows::Style;
 ghost use Prim.Native.Nat.{_≤_, _^_};
 ghost use mathlib.Core.Path.{_≡_};
@@ -18,52 +21,52 @@ ghost use lib.ListN.{length};
 ghost use Rattle.label.specs.Choice.{pick};
 ghost use Rattle.label.specs.Limits.{denominator-of};
 ghost use Rattle.label.specs.Writing.{figures, sign-text, whole-text, fraction-text, power-text, exponent-text};
-ghost use Rattle.rewriting.specs.Texts.{text-room, WritesText};
 ghost use Rattle.notations.specs.Styles.{style-in};
+ghost use Rattle.rewriting.specs.Texts.{text-room, WritesText};
 
 // The denominator in lowest terms of so many sixtieths: the first divisor of 60 that makes a whole number of them.
 fn denominator(sixtieths: u64) -> u64
     requires { ⌜ sixtieths ≤ 2 ^ 31 ⌝ }
     ensures { λ r. ⌜ (r ≡ denominator-of (pos sixtieths)) × (r ≤ 60) ⌝ }
 {
-    if sixtieths % 60 == 0 {
+    if sixtieths % PARTS_OF_ONE == 0 {
         return 1;
     }
-    if sixtieths * 2 % 60 == 0 {
+    if sixtieths * 2 % PARTS_OF_ONE == 0 {
         return 2;
     }
-    if sixtieths * 3 % 60 == 0 {
+    if sixtieths * 3 % PARTS_OF_ONE == 0 {
         return 3;
     }
-    if sixtieths * 4 % 60 == 0 {
+    if sixtieths * 4 % PARTS_OF_ONE == 0 {
         return 4;
     }
-    if sixtieths * 5 % 60 == 0 {
+    if sixtieths * 5 % PARTS_OF_ONE == 0 {
         return 5;
     }
-    if sixtieths * 6 % 60 == 0 {
+    if sixtieths * 6 % PARTS_OF_ONE == 0 {
         return 6;
     }
-    if sixtieths * 10 % 60 == 0 {
+    if sixtieths * 10 % PARTS_OF_ONE == 0 {
         return 10;
     }
-    if sixtieths * 12 % 60 == 0 {
+    if sixtieths * 12 % PARTS_OF_ONE == 0 {
         return 12;
     }
-    if sixtieths * 15 % 60 == 0 {
+    if sixtieths * 15 % PARTS_OF_ONE == 0 {
         return 15;
     }
-    if sixtieths * 20 % 60 == 0 {
+    if sixtieths * 20 % PARTS_OF_ONE == 0 {
         return 20;
     }
-    if sixtieths * 30 % 60 == 0 {
+    if sixtieths * 30 % PARTS_OF_ONE == 0 {
         return 30;
     }
-    60
+    PARTS_OF_ONE
 }
 
 // Writes an integer of at most 4 digits. It has a plus nowhere.
-fn push_integer(text: &mut [u8; 260], at: usize, negative: bool, n: u64) -> usize
+fn push_integer(text: &mut [u8; ROOM], at: usize, negative: bool, n: u64) -> usize
     requires { ⌜ length (now text) ≡ text-room ⌝ }
     ensures { λ r. ⌜ WritesText (now (text .entry)) at (some (sign-text false negative ++ figures n)) (now (text .exit)) r ⌝ }
 {
@@ -82,7 +85,7 @@ fn is_wrapped(style: Style, negative: bool) -> bool
 }
 
 // Writes a whole exponent.
-fn push_whole(text: &mut [u8; 260], at: usize, style: Style, negative: bool, n: u64) -> usize
+fn push_whole(text: &mut [u8; ROOM], at: usize, style: Style, negative: bool, n: u64) -> usize
     requires { ⌜ length (now text) ≡ text-room ⌝ }
     ensures { λ r. ⌜ WritesText (now (text .entry)) at (some (whole-text (style-in style) negative n)) (now (text .exit)) r ⌝ }
 {
@@ -97,7 +100,7 @@ fn push_whole(text: &mut [u8; 260], at: usize, style: Style, negative: bool, n: 
 
 // Writes the fraction `n/d` as an exponent.
 fn push_fraction(
-    text: &mut [u8; 260],
+    text: &mut [u8; ROOM],
     at: usize,
     style: Style,
     negative: bool,
@@ -127,7 +130,7 @@ fn is_one(negative: bool, n: u64) -> bool
 
 // Writes the exponent `n/d`. 1 is omitted, and a fraction may have no form.
 fn push_power(
-    text: &mut [u8; 260],
+    text: &mut [u8; ROOM],
     at: usize,
     style: Style,
     negative: bool,
@@ -141,7 +144,7 @@ fn push_power(
         if style.fractions {
             return push_fraction(text, at, style, negative, n, d);
         }
-        return 262;
+        return FORMLESS;
     }
     if is_one(negative, n) {
         return at;
@@ -150,7 +153,7 @@ fn push_power(
 }
 
 // Writes an exponent.
-pub fn push_exponent(text: &mut [u8; 260], at: usize, style: Style, exponent: Exponent) -> usize
+pub fn push_exponent(text: &mut [u8; ROOM], at: usize, style: Style, exponent: Exponent) -> usize
     requires { ⌜ length (now text) ≡ text-room ⌝ }
     ensures { λ r. ⌜ WritesText (now (text .entry)) at (exponent-text (style-in style) exponent) (now (text .exit)) r ⌝ }
 {
@@ -161,7 +164,7 @@ pub fn push_exponent(text: &mut [u8; 260], at: usize, style: Style, exponent: Ex
         at,
         style,
         is_negative(exponent.0),
-        sixtieths * d / 60,
+        sixtieths * d / PARTS_OF_ONE,
         d,
     )
 }

@@ -3,6 +3,7 @@ use crate::numbers::is_negative;
 use crate::numbers::magnitude;
 use crate::numbers::push_figures;
 use crate::numbers::push_sign;
+use crate::text::ROOM;
 use crate::text::push;
 use crate::text::push_stars;
 use label::Tens;
@@ -13,11 +14,11 @@ ghost use lib.ListN.{length};
 ghost use Rattle.label.specs.Bytes.{bytes};
 ghost use Rattle.label.specs.Choice.{pick};
 ghost use Rattle.label.specs.Writing.{factor-text};
-ghost use Rattle.rewriting.specs.Texts.{text-room, WritesText};
 ghost use Rattle.notations.specs.Styles.{style-in};
+ghost use Rattle.rewriting.specs.Texts.{text-room, WritesText};
 
 // Writes a space, or nothing.
-fn push_gap(text: &mut [u8; 260], at: usize, gap: bool) -> usize
+fn push_gap(text: &mut [u8; ROOM], at: usize, gap: bool) -> usize
     requires { ⌜ length (now text) ≡ text-room ⌝ }
     ensures { λ r. ⌜ WritesText (now (text .entry)) at (some (pick gap (bytes " ") (bytes ""))) (now (text .exit)) r ⌝ }
 {
@@ -28,7 +29,7 @@ fn push_gap(text: &mut [u8; 260], at: usize, gap: bool) -> usize
 }
 
 // Writes 10, and two stars where k follows them.
-fn push_ten(text: &mut [u8; 260], at: usize, stars: bool) -> usize
+fn push_ten(text: &mut [u8; ROOM], at: usize, stars: bool) -> usize
     requires { ⌜ length (now text) ≡ text-room ⌝ }
     ensures { λ r. ⌜ WritesText (now (text .entry)) at (some (pick stars (bytes "10**") (bytes "10"))) (now (text .exit)) r ⌝ }
 {
@@ -38,7 +39,7 @@ fn push_ten(text: &mut [u8; 260], at: usize, stars: bool) -> usize
 }
 
 // Writes ten to the k, or nothing where k is 0.
-pub fn push_factor(text: &mut [u8; 260], at: usize, style: Style, k: Tens) -> usize
+pub fn push_factor(text: &mut [u8; ROOM], at: usize, style: Style, k: Tens) -> usize
     requires { ⌜ length (now text) ≡ text-room ⌝ }
     ensures { λ r. ⌜ WritesText (now (text .entry)) at (some (factor-text (style-in style) k)) (now (text .exit)) r ⌝ }
 {

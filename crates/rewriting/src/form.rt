@@ -1,5 +1,7 @@
 // How a unit is written, as numbers.
 use crate::letters::push_key;
+use crate::text::FORMLESS;
+use crate::text::ROOM;
 use crate::text::append;
 use crate::text::push;
 ghost use mathlib.Core.Path.{_≡_};
@@ -29,7 +31,7 @@ pub struct UnitForm {
 }
 
 // Writes a name, or the letters of an unknown unit of the label `s`.
-fn push_letters(text: &mut [u8; 260], at: usize, s: &[u8], form: UnitForm) -> usize
+fn push_letters(text: &mut [u8; ROOM], at: usize, s: &[u8], form: UnitForm) -> usize
     requires { ⌜ (length (now text) ≡ text-room) × FormIn (now s) form ⌝ }
     ensures { λ r. ⌜ WritesText (now (text .entry)) at (some (letters-of 8 (form .name) ++ between (now (s .entry)) (form .start) (form .end))) (now (text .exit)) r ⌝ }
 {
@@ -38,12 +40,12 @@ fn push_letters(text: &mut [u8; 260], at: usize, s: &[u8], form: UnitForm) -> us
 }
 
 // Writes a unit of the label `s` in that form.
-pub fn push_form(text: &mut [u8; 260], at: usize, s: &[u8], form: UnitForm) -> usize
+pub fn push_form(text: &mut [u8; ROOM], at: usize, s: &[u8], form: UnitForm) -> usize
     requires { ⌜ (length (now text) ≡ text-room) × FormIn (now s) form ⌝ }
     ensures { λ r. ⌜ WritesText (now (text .entry)) at (form-text (now (s .entry)) form) (now (text .exit)) r ⌝ }
 {
     if form.kind == NO_FORM {
-        return 262;
+        return FORMLESS;
     }
     let first = push_key(text, at, 2, form.prefix);
     if form.kind == PLAIN {

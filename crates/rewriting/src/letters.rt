@@ -1,4 +1,5 @@
 // Letters: those of a key, and the comparison of letters.
+use crate::text::ROOM;
 use crate::text::push;
 ghost use Prim.Native.Nat.{_≤_};
 ghost use mathlib.Core.Path.{_≡_};
@@ -10,7 +11,7 @@ ghost use Rattle.rewriting.specs.Texts.{text-room, WritesText};
 ghost use Rattle.rewriting.specs.Letters.{letters-of};
 
 // Writes the letters of a key, `most` at most.
-pub fn push_key(text: &mut [u8; 260], at: usize, most: u8, key: u64) -> usize
+pub fn push_key(text: &mut [u8; ROOM], at: usize, most: u8, key: u64) -> usize
     requires { ⌜ length (now text) ≡ text-room ⌝ }
     ensures { λ r. ⌜ WritesText (now (text .entry)) at (some (letters-of most key)) (now (text .exit)) r ⌝ }
 {

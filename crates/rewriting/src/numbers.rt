@@ -1,4 +1,5 @@
 // Numbers as they are written: signs and digits.
+use crate::text::ROOM;
 use crate::text::push;
 ghost use Prim.Native.Nat.{ℕ, _≤_, _^_};
 ghost use mathlib.Core.Path.{_≡_};
@@ -28,7 +29,7 @@ pub fn is_negative(z: i32) -> bool
 }
 
 // Writes the sign of a number; a plus only where it is asked for.
-pub fn push_sign(text: &mut [u8; 260], at: usize, plussed: bool, negative: bool) -> usize
+pub fn push_sign(text: &mut [u8; ROOM], at: usize, plussed: bool, negative: bool) -> usize
     requires { ⌜ length (now text) ≡ text-room ⌝ }
     ensures { λ r. ⌜ WritesText (now (text .entry)) at (some (sign-text plussed negative)) (now (text .exit)) r ⌝ }
 {
@@ -42,7 +43,7 @@ pub fn push_sign(text: &mut [u8; 260], at: usize, plussed: bool, negative: bool)
 }
 
 // Writes the last `most` digits of a number, or all of them where it has fewer.
-pub fn push_figures(text: &mut [u8; 260], at: usize, most: u8, n: u64) -> usize
+pub fn push_figures(text: &mut [u8; ROOM], at: usize, most: u8, n: u64) -> usize
     requires { ⌜ length (now text) ≡ text-room ⌝ }
     ensures { λ r. ⌜ WritesText (now (text .entry)) at (some (figures-before most n [])) (now (text .exit)) r ⌝ }
 {

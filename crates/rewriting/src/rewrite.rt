@@ -1,6 +1,13 @@
 // What rewriting a label answers, and what the lent buffer holds then.
+use crate::text::FORMLESS;
+use crate::text::ROOM;
 use crate::whole::Target;
 use crate::whole::push_label;
+use content::named::NAME_PLACES;
+use content::sums::SUMS;
+use descent::terms::PLACES;
+use label::MOST_BYTES;
+use label::MOST_TERMS;
 use notations::rows::is_notation;
 use notations::rows::style_of;
 use reading::read::read;
@@ -10,8 +17,8 @@ ghost use mathlib.Core.Option.{Option};
 ghost use Prim.Native.Nat.{ℕ};
 ghost use lib.ListN.{length};
 ghost use Rattle.label.specs.Writing.{sized};
-ghost use Rattle.rewriting.specs.Texts.{text-room, HoldsText};
 ghost use Rattle.label.specs.Writing.{fitted, rewriting-into, buffer-with};
+ghost use Rattle.rewriting.specs.Texts.{text-room, HoldsText};
 ghost use Rattle.rewriting.specs.Buffers.{AnswerIs};
 
 // The number of the refusal, or 0 and how many bytes the result has.
@@ -28,13 +35,13 @@ fn deliver(text: &[u8], end: usize, buffer: &mut [u8]) -> Rewritten
     ensures { λ _. ⌜ ((o : Option (List ℕ)) → HoldsText (now (text .entry)) end o
         → now (buffer .exit) ≡ buffer-with (fitted (length (now (buffer .entry))) (sized o)) (now (buffer .entry))) ⌝ }
 {
-    if end == 262 {
+    if end == FORMLESS {
         return Rewritten {
             number: 12,
             length: 0,
         };
     }
-    if 255 < end {
+    if MOST_BYTES < end {
         return Rewritten {
             number: 13,
             length: 0,
@@ -58,10 +65,10 @@ pub fn rewrite(n: u32, s: &[u8], m: u32, buffer: &mut [u8]) -> Rewritten
     ensures { λ r. ⌜ AnswerIs (rewriting-into (length (now (buffer .entry))) n (now (s .entry)) m) r ⌝ }
     ensures { λ _. ⌜ now (buffer .exit) ≡ buffer-with (rewriting-into (length (now (buffer .entry))) n (now (s .entry)) m) (now (buffer .entry)) ⌝ }
 {
-    let mut places: [usize; 66] = [0; 66];
-    let mut exponents: [i32; 32] = [0; 32];
-    let mut names: [u8; 128] = [0; 128];
-    let mut sums: [i64; 36] = [0; 36];
+    let mut places: [usize; PLACES] = [0; PLACES];
+    let mut exponents: [i32; MOST_TERMS] = [0; MOST_TERMS];
+    let mut names: [u8; NAME_PLACES] = [0; NAME_PLACES];
+    let mut sums: [i64; SUMS] = [0; SUMS];
     let a = read(n, s, &mut places, &mut exponents, &mut names, &mut sums);
     if a.number != 0 {
         return Rewritten {
@@ -78,7 +85,7 @@ pub fn rewrite(n: u32, s: &[u8], m: u32, buffer: &mut [u8]) -> Rewritten
     let style = style_of(m as u8);
     let k = a.k;
     let target = Target { style, k };
-    let mut text: [u8; 260] = [0; 260];
+    let mut text: [u8; ROOM] = [0; ROOM];
     let end = push_label(&mut text, target, s, &places, &exponents, &names);
     deliver(&text, end, buffer)
 }

@@ -2,7 +2,13 @@
 use crate::name::letters_in;
 use crate::unit::SourceTerm;
 use crate::unit::prefix_code;
+use content::named::LETTER_ENDS;
+use content::named::LETTER_STARTS;
+use content::named::NAME_PLACES;
+use content::named::UNIT_CODES;
 use content::named::number_at;
+use descent::terms::ENDS;
+use descent::terms::PLACES;
 use symbols::SymbolAt;
 ghost use Prim.Native.Nat.{_<_};
 ghost use mathlib.Core.Path.{_≡_};
@@ -11,14 +17,14 @@ ghost use Rattle.symbols.specs.Columns.{prefix-codes};
 ghost use Rattle.rewriting.specs.Units.{SymbolFrom, TermOf, TermIs};
 
 // What the spelling of term `i` stands for.
-fn unit_at(names: &[u8; 128], i: usize) -> SymbolAt
+fn unit_at(names: &[u8; NAME_PLACES], i: usize) -> SymbolAt
     requires { ⌜ i < most-terms ⌝ }
     ensures { λ r. ⌜ SymbolFrom (now (names .entry)) i r ⌝ }
 {
     let prefix = number_at(names, i);
-    let code = number_at(names, 32 + i);
-    let start = number_at(names, 64 + i) as usize;
-    let end = number_at(names, 96 + i) as usize;
+    let code = number_at(names, UNIT_CODES + i);
+    let start = number_at(names, LETTER_STARTS + i) as usize;
+    let end = number_at(names, LETTER_ENDS + i) as usize;
     if code == 0 {
         return SymbolAt {
             known: false,
@@ -41,8 +47,8 @@ fn unit_at(names: &[u8; 128], i: usize) -> SymbolAt
 pub fn term_at(
     prefixes: &[u32],
     s: &[u8],
-    places: &[usize; 66],
-    names: &[u8; 128],
+    places: &[usize; PLACES],
+    names: &[u8; NAME_PLACES],
     i: usize,
 ) -> SourceTerm
     requires { ⌜ now prefixes ≡ prefix-codes ⌝ }
@@ -52,7 +58,7 @@ pub fn term_at(
     let unit = unit_at(names, i);
     let code = prefix_code(prefixes, unit.prefix);
     let start = places[i];
-    let end = places[32 + i];
+    let end = places[ENDS + i];
     let own = letters_in(s, start + (code / 65536) as usize, end);
     SourceTerm { unit, own }
 }

@@ -1,5 +1,5 @@
-// A text that is written piece by piece into an array, and how far it has come: the count of its bytes, 261 once it is longer than the array,
-// and 262 once a piece has no form.
+// A text that is written piece by piece into an array, and how far it has come: the count of its bytes, TOO_LONG once it is longer than the
+// array, and FORMLESS once a piece has no form.
 ghost use Prim.Native.Nat.{_≤_};
 ghost use mathlib.Core.Path.{_≡_};
 ghost use mathlib.Core.List.{[], _∷_};
@@ -10,23 +10,30 @@ ghost use Rattle.label.specs.Choice.{pick};
 ghost use Rattle.label.specs.Ranges.{between};
 ghost use Rattle.rewriting.specs.Texts.{text-room, WritesText};
 
+// A spelling of 255 letters with a prefix and quotes fits.
+pub const ROOM: usize = 260;
+
+pub const TOO_LONG: usize = ROOM + 1;
+
+pub const FORMLESS: usize = ROOM + 2;
+
 // Writes a byte.
-pub fn push(text: &mut [u8; 260], at: usize, byte: u8) -> usize
+pub fn push(text: &mut [u8; ROOM], at: usize, byte: u8) -> usize
     requires { ⌜ length (now text) ≡ text-room ⌝ }
     ensures { λ r. ⌜ WritesText (now (text .entry)) at (some (byte ∷ [])) (now (text .exit)) r ⌝ }
 {
-    if at < 260 {
+    if at < ROOM {
         text[at] = byte;
         return at + 1;
     }
-    if at == 260 {
-        return 261;
+    if at == ROOM {
+        return TOO_LONG;
     }
     at
 }
 
 // Writes the bytes of `s` from `start` up to `end`.
-pub fn append(text: &mut [u8; 260], at: usize, s: &[u8], start: usize, end: usize) -> usize
+pub fn append(text: &mut [u8; ROOM], at: usize, s: &[u8], start: usize, end: usize) -> usize
     requires { ⌜ length (now text) ≡ text-room ⌝ }
     requires { ⌜ (start ≤ end) × (end ≤ length (now s)) ⌝ }
     ensures { λ r. ⌜ WritesText (now (text .entry)) at (some (between (now (s .entry)) start end)) (now (text .exit)) r ⌝ }
@@ -41,7 +48,7 @@ pub fn append(text: &mut [u8; 260], at: usize, s: &[u8], start: usize, end: usiz
 }
 
 // Writes two stars, or nothing.
-pub fn push_stars(text: &mut [u8; 260], at: usize, stars: bool) -> usize
+pub fn push_stars(text: &mut [u8; ROOM], at: usize, stars: bool) -> usize
     requires { ⌜ length (now text) ≡ text-room ⌝ }
     ensures { λ r. ⌜ WritesText (now (text .entry)) at (some (pick stars (bytes "**") (bytes ""))) (now (text .exit)) r ⌝ }
 {

@@ -8,6 +8,7 @@ use crate::letters::same_letters;
 use crate::name::Own;
 use crate::name::name_in;
 use crate::name::names_of;
+use crate::text::ROOM;
 use notations::rows::Style;
 use symbols::Span;
 use symbols::SymbolAt;
@@ -127,7 +128,7 @@ pub fn form_of(
     if form.kind == NO_FORM {
         return form;
     }
-    let mut plain: [u8; 260] = [0; 260];
+    let mut plain: [u8; ROOM] = [0; ROOM];
     let end = push_form(&mut plain, 0, s, form);
     let y = symbol(keys, codes, prefixes, m, &plain, Span { start: 0, end });
     if is_same(&plain, y, s, term.unit) {

@@ -4,9 +4,14 @@ use crate::factor::push_factor;
 use crate::form::UnitForm;
 use crate::form::push_form;
 use crate::source::term_at;
+use crate::text::ROOM;
 use crate::text::push;
 use crate::unit::form_of;
+use content::named::NAME_PLACES;
+use descent::terms::COUNT;
+use descent::terms::PLACES;
 use label::Exponent;
+use label::MOST_TERMS;
 use label::Tens;
 use notations::rows::Style;
 use symbols::tables::name_codes;
@@ -18,9 +23,9 @@ ghost use mathlib.Core.Option.{some};
 ghost use lib.ListN.{length};
 ghost use Rattle.label.specs.Writing.{writable, label-text};
 ghost use Rattle.descent.specs.Terms.{lent, count};
+ghost use Rattle.notations.specs.Styles.{style-in};
 ghost use Rattle.content.specs.Views.{terms-in};
 ghost use Rattle.rewriting.specs.Texts.{text-room, HoldsText, WritesText};
-ghost use Rattle.notations.specs.Styles.{style-in};
 ghost use Rattle.rewriting.specs.Forms.{FormIn, raised-text, joint-before};
 ghost use Rattle.rewriting.specs.Units.{AllTerms};
 
@@ -31,7 +36,7 @@ pub struct Target {
 }
 
 // Writes what joins term `i` to those before it.
-fn push_joint(text: &mut [u8; 260], at: usize, style: Style, i: usize) -> usize
+fn push_joint(text: &mut [u8; ROOM], at: usize, style: Style, i: usize) -> usize
     requires { ⌜ length (now text) ≡ text-room ⌝ }
     ensures { λ r. ⌜ WritesText (now (text .entry)) at (some (joint-before (style-in style) i)) (now (text .exit)) r ⌝ }
 {
@@ -43,7 +48,7 @@ fn push_joint(text: &mut [u8; 260], at: usize, style: Style, i: usize) -> usize
 
 // Writes a unit in its form, and its exponent.
 fn push_term(
-    text: &mut [u8; 260],
+    text: &mut [u8; ROOM],
     at: usize,
     style: Style,
     s: &[u8],
@@ -59,12 +64,12 @@ fn push_term(
 
 // Writes the factor and the terms, from the array's start.
 pub fn push_label(
-    text: &mut [u8; 260],
+    text: &mut [u8; ROOM],
     target: Target,
     s: &[u8],
-    places: &[usize; 66],
-    exponents: &[i32; 32],
-    names: &[u8; 128],
+    places: &[usize; PLACES],
+    exponents: &[i32; MOST_TERMS],
+    names: &[u8; NAME_PLACES],
 ) -> usize
     requires { ⌜ (length (now text) ≡ text-room) × AllTerms (now s) (now places) (now names) ⌝ }
     ensures { λ r. ⌜ HoldsText (now (text .exit)) r (label-text (style-in (target .style)) (target .style .notation) (target .k)
@@ -72,7 +77,7 @@ pub fn push_label(
         (count (lent (now (places .entry)) (now (exponents .entry))))))) ⌝ }
     ensures { λ _. ⌜ length (now (text .exit)) ≡ text-room ⌝ }
 {
-    let count = places[64];
+    let count = places[COUNT];
     if count == 0 {
         return 0;
     }

@@ -4,6 +4,7 @@ use crate::ratios::power_ratio;
 use crate::signs::exclusive_or;
 use crate::signs::signed;
 use label::Exponent;
+use label::PARTS_OF_ONE;
 use label::WrittenPower;
 ghost use mathlib.Core.Path.{_≡_};
 ghost use mathlib.Core.Bool.{false};
@@ -15,11 +16,8 @@ ghost use Rattle.values.specs.Bounds.{numerator-bound};
 ghost use Rattle.values.specs.Given.{given};
 ghost use Rattle.values.specs.Quotients.{ratio-of};
 
-// An exponent is counted in sixtieths.
-const PARTS_OF_ONE: u64 = 60;
-
-// The largest exponent, 99.
-const LARGEST_EXPONENT: u64 = 5940;
+// The largest exponent, 99, in sixtieths.
+const LARGEST_EXPONENT: u64 = 99 * PARTS_OF_ONE;
 
 // An exponent, or none where `ok` is false.
 pub struct MaybeExponent {

@@ -6,6 +6,7 @@ use mathlib.Core.List.{List, []}
 use lib.ListN.{length}
 use mir.Facts.{toZ-ofZ}
 use Rattle.label.specs.Reading.{base-in}
+use Rattle.label.specs.Units.{base-count}
 use Rattle.descent.specs.Terms.{lent}
 use Rattle.content.specs.Views.{terms-in}
 use Rattle.content.specs.Sums.{SumsWithin, zero-sums}
@@ -16,7 +17,7 @@ use Rattle.content.proofs.dimensions.dimensions.Tie as tie
 
 abbrev Inv-loop : tie.InvT-loop
 Inv-loop count exponents names sums₀ bases powers i₀ sums i =
-    (i ≤ count) × (SumsWithin (bound i) sums × ((s p : List ℕ) → Totals base-in (terms-in s (lent p exponents) names i) (zero-sums 32) sums))
+    (i ≤ count) × (SumsWithin (bound i) sums × ((s p : List ℕ) → Totals base-in (terms-in s (lent p exponents) names i) (zero-sums base-count) sums))
 
 abbrev μ-loop : tie.MeasureT-loop
 μ-loop count exponents names sums₀ bases powers i₀ sums i = count - i

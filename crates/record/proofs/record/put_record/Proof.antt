@@ -1,7 +1,7 @@
 -- `record::record::put_record` meets its contract: the parts are written one after the other.
 use mathlib.Core.Path.{_≡_, ap, _∙_}
 use lib.ListN.{length, getD}
-use Rattle.descent.specs.Terms.{lent}
+use Rattle.descent.specs.Terms.{lent, count-in}
 use Rattle.content.specs.Views.{terms-in}
 use Rattle.record.specs.Record.{terms-fields, record-size}
 use Rattle.record.proofs.Joining.{joined-is, cleared, fields-are}
@@ -37,7 +37,7 @@ put-record-spec =
     let x = start .args in
     let room : length (put₄ .last .0) ≡ record-size = put₄ .kept .0 ∙ put₃ .kept .0 ∙ put₂ .kept .0 ∙ put₁ .kept .0 ∙ start .pre .0 in
     joined-is
-    (head .result) (terms-fields (terms-in s (lent (x .places .now) (x .exponents .now)) (x .names .now) (getD (x .places .now) 64 0))) (x .sums .now) (getD (x .places .now) 64 0) (x .b .now) (put₁ .last .0) (put₂ .last .0) (put₃ .last .0) (put₄ .last .0)
+    (head .result) (terms-fields (terms-in s (lent (x .places .now) (x .exponents .now)) (x .names .now) (count-in (x .places .now)))) (x .sums .now) (count-in (x .places .now)) (x .b .now) (put₁ .last .0) (put₂ .last .0) (put₃ .last .0) (put₄ .last .0)
     (ap length (head .ensures)) (start .pre .1 .sums) room
-    (put₁ .ensures) (put₂ .ensures s w) (cleared (put₂ .last .0) (put₃ .last .0) (getD (x .places .now) 64 0) (start .pre .1 .few) (put₃ .ensures)) (put₄ .ensures)
+    (put₁ .ensures) (put₂ .ensures s w) (cleared (put₂ .last .0) (put₃ .last .0) (count-in (x .places .now)) (start .pre .1 .few) (put₃ .ensures)) (put₄ .ensures)
     ∙ fields-are s (lent (x .places .now) (x .exponents .now)) (x .names .now) (x .sums .now) (x .a) (start .pre .1 .sums) (head .ensures)))

@@ -9,10 +9,11 @@ use Rattle.label.specs.Limits.{parts-of-one}
 use Rattle.label.specs.Reading.{Reading, primes}
 use Rattle.label.specs.Conversion.{above, below, fraction}
 use Rattle.claims.specs.Fractions.{Divides, NoCommonFactor, Exact}
+use Rattle.claims.specs.Parts.{up, down}
 use Rattle.claims.specs.Converting.{prime-exponent, Whole, WholeIn, FactorIs}
 use Rattle.claims.specs.Sizing.{top, bottom, SizesGive, SizesGiveTheFactor, FractionExactlyIf}
 use Rattle.claims.proofs.Coprime.{divides-self, common-swap, common-power, power-product}
-use Rattle.claims.proofs.Exactness.{up, down, above-is, below-is, positive-above, positive-below, same-exponent, sub-parts, difference-parts, fraction-exact, two-three, two-487, three-487, two-five, three-five, five-487}
+use Rattle.claims.proofs.Exactness.{above-is, below-is, positive-above, positive-below, same-exponent, sub-parts, difference-parts, fraction-exact, two-three, two-487, three-487, two-five, three-five, five-487}
 use Rattle.claims.proofs.Valuations.{Prime, two-prime, three-prime, five-prime, other-prime, Often, often-none, often-product, often-power, often-itself, often-once, divided, same-base}
 use Rattle.claims.proofs.Scales.{powers, powers-sum, powers-power, times-parts, Factored, factored}
 

@@ -128,7 +128,7 @@ module _ {m : ℕ} {y : Style} (o : Suited m y) where
 
 pub written-decided : (m : ℕ) → notation m ≡ true → (k : Tens) {ws : List Writable} → AllReady ws → Decided m ws (written m k ws)
 unfolding written written-by
-written-decided m h k s = let w = notation-ruled m h in rw (w .1 .styled) (label-decided (ruled-suited (w .1)) k s)
+written-decided m h k s = let w = notation-ruled m h in rw (w .1 .listed .styled) (label-decided (ruled-suited (w .1)) k s)
 
 -- A LABEL'S OWN NOTATION HAS A FORM FOR IT
 
@@ -194,7 +194,7 @@ no-powers false false c h = (refl, refl, h)
 
 whole-exponent : {n : ℕ} {r : Rules} {t : List ℕ} {w : Written} (b : Bool) (e : Exponent) → RuledBy n r → member n fractionless ≡ true → ExponentBy r t w → exponent-of b w ≡ some e → lowest-terms e .denominator ≡ 1
 unfolding exponent-of ratio
-whole-exponent {r = r} b e o k x h = go x h (no-powers (r .brackets) (r .stars) (r .caret) (o .raised ∙ ap not k))
+whole-exponent {r = r} b e o k x h = go x h (no-powers (r .brackets) (r .stars) (r .caret) (o .listed .raised ∙ ap not k))
   where
     go : {t : List ℕ} {w : Written} → ExponentBy r t w → exponent-of b w ≡ some e → (r .brackets ≡ false) × (r .stars ≡ false) × (r .caret ≡ false) → lowest-terms e .denominator ≡ 1
     go ExponentBy.none h p = whole-lowest b (ratio unwritten) e refl h

@@ -18,7 +18,7 @@ use Rattle.label.specs.Writing.{same-prefix, same-symbol, reads-as, name
 use Rattle.label.specs.Rows.{Style}
 use Rattle.label.proofs.Basics.{false-true, none-some}
 use Rattle.label.proofs.General.{SpellingBy}
-use Rattle.label.proofs.Ruled.{RuledBy, Suited}
+use Rattle.label.proofs.Ruled.{RuledBy, spelled-by, Suited}
 use Rattle.label.proofs.Spelled.{SpellingRead, read-as, same-self, NamedText, named-parts, UnknownText, unknown-parts, symbol-read}
 use Rattle.label.proofs.Owned.{all-right, letters-unquoted, letters-prefixed, Sourced}
 
@@ -143,7 +143,7 @@ module _ {m : ℕ} {y : Style} (o : Suited m y) where
   quoted-text p l d f w = go (reads-as m (prefix-letters p ++ l) (unknown p l)) refl
     where
       flag : y .quotes ≡ true
-      flag = o .suits .quotes ∙ quotes-flag (o .ruled .spelled (w .spelling)) (prefix-letters p) (l ++ quote ∷ []) refl
+      flag = o .suits .agrees .quotes ∙ quotes-flag (spelled-by (o .ruled) (w .spelling)) (prefix-letters p) (l ++ quote ∷ []) refl
 
       go : (b : Bool) → reads-as m (prefix-letters p ++ l) (unknown p l) ≡ b
           → pick b (some (prefix-letters p ++ l)) (pick (y .quotes) (some (prefix-letters p ++ in-quotes l)) none) ≡ some (prefix-letters p ++ in-quotes l)

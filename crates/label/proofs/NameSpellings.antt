@@ -110,7 +110,7 @@ unfolding all letter
 percent-no-letter d = letters-all d
 
 percent-flag : {m : ℕ} {r : Rules} → RuledBy m r → m ≡ cds → r .percent ≡ true
-percent-flag {m} o e = o .percent ∙ eq-eqb m 3 e
+percent-flag {m} o e = o .listed .percent ∙ eq-eqb m 3 e
 
 -- a prefix and a name that notation m knows are a spelling there
 pub name-derived : {m : ℕ} {r : Rules} {own : List ℕ} (p : Option ℕ) (u : ℕ) (l : List ℕ) → RuledBy m r → Sourced own (known p u) → has-name m l (unit-at u .names) ≡ true → SpellingBy r (prefix-letters p ++ l)

@@ -4,7 +4,7 @@ use native.Mathlib.Omega.{arith}
 use native.Mathlib.Decide.{decLt}
 use native.Mathlib.Nat.{zero-sub, sub-zero, suc-sub-suc}
 use mathlib.Core.Path.{_≡_, refl, sym, _∙_, ap}
-use mathlib.Core.Bool.{Bool, true, false, _&&_}
+use mathlib.Core.Bool.{Bool, true, false, _&&_, not}
 use mathlib.Core.List.{List, [], _∷_, _++_}
 use mathlib.Core.Option.{Option, none as nothing, some}
 use lib.Dec.{T, eqb, leb, leb→le}
@@ -25,6 +25,9 @@ T→true true t = refl
 
 pub true→T : {b : Bool} → b ≡ true → T b
 true→T e = rw e tt
+
+pub T-not : (b : Bool) → T (not b) → b ≡ false
+T-not false t = refl
 
 pub both : (a b : Bool) → T (a && b) → T a × T b
 both true true t = (tt, tt)

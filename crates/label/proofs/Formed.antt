@@ -199,9 +199,9 @@ whole-exponent {r = r} b e o k x h = go x h (no-powers (r .brackets) (r .stars) 
     go : {t : List ℕ} {w : Written} → ExponentBy r t w → exponent-of b w ≡ some e → (r .brackets ≡ false) × (r .stars ≡ false) × (r .caret ≡ false) → lowest-terms e .denominator ≡ 1
     go ExponentBy.none h p = whole-lowest b (ratio unwritten) e refl h
     go (ExponentBy.integer {n = n} f i) h p = whole-lowest b (ratio (whole n)) e refl h
-    go (ExponentBy.bracketed f i) h p = absurd (false-true (sym (p .0) ∙ f))
-    go (ExponentBy.stars f i) h p = absurd (false-true (sym (p .1) ∙ f))
-    go (ExponentBy.caret f i) h p = absurd (false-true (sym (p .2) ∙ f))
+    go (ExponentBy.bracketed f i) h p = absurd (rw (p .0) at f)
+    go (ExponentBy.stars f i) h p = absurd (rw (p .1) at f)
+    go (ExponentBy.caret f i) h p = absurd (rw (p .2) at f)
 
 exponent-formed : {n : ℕ} {r : Rules} {t : List ℕ} {w : Written} (b : Bool) (e : Exponent) → RuledBy n r → ExponentBy r t w → exponent-of b w ≡ some e → ExponentForm n e
 exponent-formed {n} b e o x h = go (member n fractionless) refl

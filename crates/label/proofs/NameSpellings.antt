@@ -118,5 +118,5 @@ name-derived {m} {r} {own} p u l o s h = go (name-spelt m u l h) s
   where
     go : {q : Option ℕ} → NameSpelled m (unit-at u .names) l → Sourced own (known q u) → SpellingBy r (prefix-letters q ++ l)
     go {q} (NameSpelled.in-letters d) s = SpellingBy.letters (letters-prefixed q d)
-    go (NameSpelled.in-percent e f g) (Sourced.bare-name n k) = rw f (SpellingBy.percent (percent-flag o e))
+    go (NameSpelled.in-percent e f g) (Sourced.bare-name n k) = rw f (SpellingBy.percent (true→T (percent-flag o e)))
     go (NameSpelled.in-percent e f g) (Sourced.letter-name n k d) = absurd (percent-no-letter (rw (g n own k) at d))

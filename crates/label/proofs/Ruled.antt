@@ -4,7 +4,7 @@ use mathlib.Core.Path.{_≡_, refl, sym, _∙_}
 use mathlib.Core.Bool.{Bool, true, false, _||_, not}
 use mathlib.Core.List.{List, [], _∷_, map}
 use mathlib.Core.Option.{Option, some}
-use lib.Dec.{eqb}
+use lib.Dec.{T, eqb}
 use borrow.Author.Tests.{eqb-true}
 use Rattle.label.specs.declared.Rules.{Rules}
 use Rattle.label.specs.Bytes.{bytes, point, admitted, all}
@@ -41,7 +41,7 @@ pub record RuledBy (n : ℕ) (r : Rules) : Type 0 where
 
 -- THE NOTATIONS
 
-point-alone : {r : Rules} → r .point ≡ true → TimesBy r (point ∷ [])
+point-alone : {r : Rules} → T (r .point) → TimesBy r (point ∷ [])
 point-alone e = TimesBy.point e Pad.none Pad.none
 
 -- the forms in which a style writes, and what is computed of it

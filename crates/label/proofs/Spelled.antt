@@ -22,7 +22,7 @@ use Rattle.label.specs.Limits.{signed, negative, ratio, exponent-of}
 use Rattle.label.specs.Letters.{prefix-letters}
 use Rattle.label.specs.Writing.{sign-text, figures, whole-text, fraction-text, power-text, exponent-text, same-prefix, same-symbol, reads-as, name-among, name-in, named-text, in-quotes, unknown-text, symbol-text}
 use Rattle.label.specs.Rows.{Style}
-use Rattle.label.proofs.Basics.{none-some, false-true, and-left, and-right, same-is}
+use Rattle.label.proofs.Basics.{none-some, false-true, true→T, and-left, and-right, same-is}
 use Rattle.label.proofs.General.{SpellingBy, ExponentBy}
 use Rattle.label.proofs.Figures.{Digited, figures-of, Lowered, lowered, ratio-back, signed-size}
 use Rattle.label.proofs.Texts.{quiet, all-append, unsigned-quiet, Fine, fine-quiet, fine-append, fine-brackets}
@@ -168,11 +168,11 @@ read-as m l x h = same-symbol-is (symbol m l) x h
 -- letters in quotes, after a prefix or none
 pub quoted-read : {r : Rules} (m : ℕ) (p : Option ℕ) (l : List ℕ) → r .quotes ≡ true → Letters l → prefix-named (prefix-letters p) ≡ p → SpellingRead m r (unknown p l) (prefix-letters p ++ in-quotes l)
 unfolding prefix-name
-quoted-read m none l f d e = record { derived = SpellingBy.quoted f (Quoted.quoted d); is = quoted-symbol m [] l (prefix-unquoted none) d ∙ ap (λ (q : Option ℕ). unknown q l) e }
+quoted-read m none l f d e = record { derived = SpellingBy.quoted (true→T f) (Quoted.quoted d); is = quoted-symbol m [] l (prefix-unquoted none) d ∙ ap (λ (q : Option ℕ). unknown q l) e }
 quoted-read m (some i) l f d e =
     let n : PrefixName (prefix-letters (some i)) = PrefixName.named {p = prefix-letters (some i)} (rw e tt) in
     record {
-      derived = SpellingBy.quoted f (rw (append-assoc (prefix-letters (some i)) (quote ∷ l) (quote ∷ [])) at (Quoted.prefixed n d));
+      derived = SpellingBy.quoted (true→T f) (rw (append-assoc (prefix-letters (some i)) (quote ∷ l) (quote ∷ [])) at (Quoted.prefixed n d));
       is = quoted-symbol m (prefix-letters (some i)) l (prefix-unquoted (some i)) d ∙ ap (λ (q : Option ℕ). unknown q l) e;
     }
 

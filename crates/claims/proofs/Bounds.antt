@@ -1,7 +1,6 @@
 -- How large the exponents of bases and primes in a reading are.
-use Prim.Native.Nat.{ℕ, zero, suc, _≤_, _<_, _+_, _*_, _-_, _%_}
+use Prim.Native.Nat.{ℕ, zero, suc, _≤_, _+_, _*_, _-_, _%_}
 use native.Mathlib.Omega.{arith}
-use native.Mathlib.Decide.{decLt}
 use native.Mathlib.Nat.{mul-le-mul, mul-le-mul-right}
 use mathlib.Core.Path.{_≡_, refl, sym, ap, _∙_}
 use mathlib.Core.Bool.{Bool, true, false, _&&_, cond}
@@ -11,21 +10,19 @@ use lib.Dec.{leb, ltb, eqb}
 use lib.IntN.{ℤ, pos, negsuc, negℤ, natAbs, subℕ, _+ℤ_, _*ℤ_}
 use lib.ListN.{length, getD, length-map}
 use borrow.Author.Tests.{leb-true}
-use Rattle.label.specs.declared.Exponent.{Exponent}
 use Rattle.label.specs.declared.Tens.{Tens}
 use Rattle.label.specs.Choice.{pick}
 use Rattle.label.specs.Prefixes.{Prefix, prefix, prefixes, power-of}
 use Rattle.label.specs.Units.{BasePower, KnownUnit, bare, ten-to, units, unit-at, base-power, in-tens, prime-power}
 use Rattle.label.specs.Symbols.{Symbol, known, unknown}
-use Rattle.label.specs.Lexical.{Written, Factor, Part, no-factor, zeros}
-use Rattle.label.specs.Lexical as lexical
-use Rattle.label.specs.Limits.{Ratio, parts-of-one, largest-exponent, largest-k, signed, exclusive-or, short, in-sixtieths, sixtieths, bounded, exponent-in, exponent-of, ratio, number, tens, k-of}
-use Rattle.label.specs.Split.{Placed, Valued, valued-units, valued-with, valued, seven}
+use Rattle.label.specs.Limits.{parts-of-one}
 use Rattle.label.specs.Reading.{Term, term, Reading, base-in, prime-in, total, primes, refusal, reading-of, reading}
+use Rattle.label.specs.Writing.{writable}
 use Rattle.label.proofs.Computing.{answers-compute}
-use Rattle.label.proofs.Basics.{none-some, and-left, and-right}
-use Rattle.label.proofs.Refusals.{Values, valued-values, values-length}
+use Rattle.label.proofs.Basics.{and-left, and-right}
 use Rattle.label.proofs.Readings.{Answered, answer-of, refused-reading, accepted-reading}
+use Rattle.label.proofs.Rewritten.{AllReady}
+use Rattle.label.proofs.Sources.{Kept, accepted-kept}
 use Rattle.claims.specs.Converting.{base-exponent, prime-exponent, most-of-base, most-of-prime, ExponentsBounded, RatiosBounded}
 use Rattle.claims.proofs.WholeLaws.{neg-size}
 
@@ -49,10 +46,6 @@ size-product (pos a) (pos b) = refl
 size-product (pos a) (negsuc b) = neg-size (pos (a * suc b))
 size-product (negsuc a) (pos b) = neg-size (pos (suc a * b))
 size-product (negsuc a) (negsuc b) = refl
-
-size-signed : (b : Bool) (n : ℕ) → natAbs (signed b n) ≡ n
-size-signed true n = neg-size (pos n)
-size-signed false n = refl
 
 -- A TEST PASSED BY A WHOLE TABLE
 
@@ -159,48 +152,10 @@ total-small f m h SmallExponents.none-left = omega arith
 total-small f m h (SmallExponents.one-more {t = t} {ts = ts} e w) =
     omega (arith, size-sum (f (t .symbol) *ℤ t .exponent .0) (total f ts .0), size-product (f (t .symbol)) (t .exponent .0), mul-le-mul (h (t .symbol)) e, total-small f m h w)
 
-exponent-small : (turned : Bool) (w : Written) (e : Exponent) → exponent-of turned w ≡ some e → natAbs (e .0) ≤ 5_940
-unfolding exponent-of exponent-in
-exponent-small turned w e h = go (ratio w) h
-  where
-    go : (r : Ratio) → exponent-in turned r ≡ some e → natAbs (e .0) ≤ 5_940
-    go r h = by-test (bounded r) refl h
-      where
-        by-test : (b : Bool) → bounded r ≡ b → pick b (some (record { 0 = signed (exclusive-or turned (r .negative)) (sixtieths r) })) none ≡ some e → natAbs (e .0) ≤ 5_940
-        by-test true t h =
-            let x : signed (exclusive-or turned (r .negative)) (sixtieths r) ≡ e .0 = cc in
-            let y = leb-true (sixtieths r) (parts-of-one * largest-exponent) (and-right (in-sixtieths r) (leb (sixtieths r) (parts-of-one * largest-exponent)) (and-right (r .short) (in-sixtieths r && leb (sixtieths r) (parts-of-one * largest-exponent)) t)) in
-            omega (arith, ap natAbs x, size-signed (exclusive-or turned (r .negative)) (sixtieths r), y)
-        by-test false t h = absurd (none-some h)
-
-values-small : (n b : ℕ) {ps : List Part} {us : List Placed} → Values ps us → SmallExponents (map (term n b) us)
-unfolding term
-values-small n b Values.no-values = SmallExponents.none-left
-values-small n b (Values.value {p = p} {e = e} h vs) = SmallExponents.one-more (exponent-small (p .turned) (p .power) e h) (values-small n b vs)
-
-tens-small : (short negative : Bool) (n : ℕ) (k : Tens) → tens short negative n ≡ some k → natAbs (k .0) ≤ 99
-tens-small short negative n k h = go (short && leb n largest-k) refl h
-  where
-    go : (b : Bool) → (short && leb n largest-k) ≡ b → pick b (some (record { 0 = signed negative n })) none ≡ some k → natAbs (k .0) ≤ 99
-    go true t h =
-        let x : signed negative n ≡ k .0 = cc in
-        omega (arith, ap natAbs x, size-signed negative n, leb-true n largest-k (and-right short (leb n largest-k) t))
-    go false t h = absurd (none-some h)
-
-k-small : (f : Factor) (k : Tens) → k-of f ≡ some k → natAbs (k .0) ≤ 99
-unfolding k-of
-k-small no-factor k h = let x : pos 0 ≡ k .0 = cc in omega (arith, ap natAbs x)
-k-small (lexical.ten-to n) k h = tens-small (short (n .digits)) (n .negative) (number (n .digits)) k h
-k-small (zeros n) k h = tens-small true false n k h
-
-valued-k : (f : Factor) (ps : List Part) (v : Valued) → valued f ps ≡ some v → k-of f ≡ some (v .k)
-unfolding valued valued-with
-valued-k f ps v h = go (k-of f) (valued-units ps) refl h
-  where
-    go : (o : Option Tens) (us : Option (List Placed)) → k-of f ≡ o → valued-with o us ≡ some v → k-of f ≡ some (v .k)
-    go none us e h = absurd (none-some h)
-    go (some k) none e h = absurd (none-some h)
-    go (some k) (some us) e h = e ∙ ap (λ (x : Tens). some x) (cc)
+ready-small : (s : List ℕ) (ts : List Term) → AllReady (map (writable s) ts) → SmallExponents ts
+unfolding writable
+ready-small s [] AllReady.done = SmallExponents.none-left
+ready-small s (t ∷ ts) (AllReady.also d ds) = SmallExponents.one-more (d .within .high) (ready-small s ts ds)
 
 -- READINGS
 
@@ -214,24 +169,16 @@ refusal-limited : (i : ℕ) → LimitedReading (refusal i)
 unfolding refusal
 refusal-limited i = record { terms-few = omega arith; exponents-small = SmallExponents.none-left; k-little = omega arith }
 
-reading-limited : (n b : ℕ) {ps : List Part} (v : Valued) → Values ps (v .units) → length (v .units) ≤ 32 → natAbs (v .k .0) ≤ 99
-    → LimitedReading (reading-of n (v .k) (map (term n b) (v .units)))
+kept-limited : (n : ℕ) (s : List ℕ) (k : Tens) (ts : List Term) → Kept k (map (writable s) ts) → LimitedReading (reading-of n k ts)
 unfolding reading-of
-reading-limited n b v w h g = record { terms-few = rw length-map h; exponents-small = values-small n b w; k-little = g }
+kept-limited n s k ts w = record { terms-few = rw length-map at (w .few); exponents-small = ready-small s ts (w .ready); k-little = w .high }
 
 limited : (n : ℕ) (s : List ℕ) → LimitedReading (reading n s)
 limited n s = go (answer-of n s)
   where
     go : Answered n s → LimitedReading (reading n s)
     go (Answered.refusing i e d) = rw (refused-reading d) (refusal-limited i)
-    go (Answered.accepting v a) = rw (accepted-reading a) (reading-limited n (length s) v w (few (decLt 32 (length (a .parts)))) (k-small (a .factor) (v .k) (valued-k (a .factor) (a .parts) v (a .within))))
-      where
-        w : Values (a .parts) (v .units)
-        w = valued-values (a .factor) (a .parts) v (a .within)
-
-        few : Dec (32 < length (a .parts)) → length (v .units) ≤ 32
-        few (yes h) = absurd (a .clear 7 (seven (a .factor, a .parts, a .derived, h)))
-        few (no h) = omega (arith, values-length w)
+    go (Answered.accepting v a) = rw (accepted-reading a) (kept-limited n s (v .k) (map (term n (length s)) (v .units)) (accepted-kept a))
 
 limited-base : (b : ℕ) (r : Reading) → LimitedReading r → natAbs (base-exponent b r) ≤ most-of-base
 limited-base b r l = omega (arith, total-small (base-in b) 9 (base-small b) (l .exponents-small), mul-le-mul-right (9 * 5_940) (l .terms-few))

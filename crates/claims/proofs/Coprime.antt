@@ -47,9 +47,12 @@ common-swap k = record { one = λ m x y. k .one m y x }
 common-less : {a b c : ℕ} → a + c ≡ b → NoCommonFactor a b → NoCommonFactor a c
 common-less {a} {b} {c} e k = record { one = λ m x y. k .one m x (rw (← e) (divides-sum x y)) }
 
-module _ (f a b c : ℕ) (ih : (a b c : ℕ) → a + b ≤ f → NoCommonFactor a b → Divides a (b * c) → Divides a c) (h : a + b ≤ suc f) (k : NoCommonFactor a b) (q : ℕ) (e : q * a ≡ b * c) (l : 1 ≤ a) (m : 1 ≤ b) where
-  at-most : a ≤ b → Divides a c
-  at-most g = more (le-dest g)
+abbrev Euclid : ℕ → Type 0
+Euclid f = (a b c : ℕ) → a + b ≤ f → NoCommonFactor a b → Divides a (b * c) → Divides a c
+
+module _ (f : ℕ) (ih : Euclid f) (a b c q : ℕ) (h : a + b ≤ suc f) (k : NoCommonFactor a b) (e : q * a ≡ b * c) where
+  at-most : 1 ≤ a → a ≤ b → Divides a c
+  at-most l g = more (le-dest g)
     where
       more : (x : ℕ) × (a + x ≡ b) → Divides a c
       more (x, p) = most (le-dest c-q)
@@ -60,23 +63,11 @@ module _ (f a b c : ℕ) (ih : (a b c : ℕ) → a + b ≤ f → NoCommonFactor 
           most : (y : ℕ) × (c + y ≡ q) → Divides a c
           most (y, r) = ih a x c (omega arith) (common-less p k) (divides y (omega (arith, ap (λ (z : ℕ). z * c) p, ap (λ (z : ℕ). z * a) r)))
 
-  above : b ≤ a → Divides a c
-  above g = more (le-dest g)
-    where
-      more : (x : ℕ) × (b + x ≡ a) → Divides a c
-      more (x, p) = most (le-dest q-c)
-        where
-          q-c : q ≤ c
-          q-c = le-of-mul-le-mul-left {k = b} (omega (arith, ap (λ (z : ℕ). q * z) p)) m
-
-          last : Divides b q → Divides a c
-          last d = divides (d .times) (eq-of-mul-eq-mul-left b m (d .times * a) c (omega (arith, e, ap (λ (z : ℕ). z * a) (d .is))))
-
-          most : (y : ℕ) × (q + y ≡ c) → Divides a c
-          most (y, r) = last (ih b x q (omega arith) (common-less p (common-swap k)) (divides y (omega (arith, ap (λ (z : ℕ). q * z) p, ap (λ (z : ℕ). b * z) r))))
-
-abbrev Euclid : ℕ → Type 0
-Euclid f = (a b c : ℕ) → a + b ≤ f → NoCommonFactor a b → Divides a (b * c) → Divides a c
+-- the other way round, b divides q
+above : (f : ℕ) → Euclid f → (a b c q : ℕ) → a + b ≤ suc f → NoCommonFactor a b → q * a ≡ b * c → 1 ≤ b → b ≤ a → Divides a c
+above f ih a b c q h k e m g =
+    let d = at-most f ih b a q c (omega arith) (common-swap k) (omega arith) m g in
+    divides (d .times) (eq-of-mul-eq-mul-left b m (d .times * a) c (omega (arith, e, ap (λ (z : ℕ). z * a) (d .is))))
 
 euclid-step : (f : ℕ) → Euclid f → Euclid (suc f)
 euclid-step f ih zero b c h k d =
@@ -88,8 +79,8 @@ euclid-step f ih (suc a) zero c h k d =
 euclid-step f ih (suc a) (suc b) c h k d = go (decLe (suc a) (suc b))
   where
     go : Dec (suc a ≤ suc b) → Divides (suc a) c
-    go (yes g) = at-most f (suc a) (suc b) c ih h k (d .times) (d .is) (omega arith) (omega arith) g
-    go (no g) = above f (suc a) (suc b) c ih h k (d .times) (d .is) (omega arith) (omega arith) (omega arith)
+    go (yes g) = at-most f ih (suc a) (suc b) c (d .times) h k (d .is) (omega arith) g
+    go (no g) = above f ih (suc a) (suc b) c (d .times) h k (d .is) (omega arith) (omega arith)
 
 euclid-on : (f : ℕ) → Euclid f
 euclid-on zero a b c h k d = absurd (omega (arith, k .one 0 (divides 0 (omega arith)) (divides 0 (omega arith))))

@@ -10,6 +10,7 @@ use lib.IntN.{ℤ, pos, negsuc, negℤ, subℕ, _+ℤ_, _-ℤ_}
 use borrow.Author.Tests.{ltb-true, ltb-false}
 use Rattle.label.specs.Conversion.{above, below, fraction}
 use Rattle.claims.specs.Fractions.{Divides, NoCommonFactor, Exact}
+use Rattle.claims.specs.Parts.{up, down}
 use Rattle.claims.proofs.Valuations.{five-prime, prime-product}
 use Rattle.claims.proofs.Coprime.{power-sum, power-product, divides, divides-self, common-one, common-swap, common-product, common-power, common-powers, common-by, same-lowest}
 
@@ -19,14 +20,6 @@ pub tens : (n : ℕ) → 10 ^ n ≡ 2 ^ n * 5 ^ n
 tens n = power-product 2 5 n
 
 -- WHAT AN EXPONENT ADDS ABOVE THE LINE AND BELOW IT
-
-abbrev pub up : ℤ → ℕ
-up (pos n) = n
-up (negsuc n) = 0
-
-abbrev pub down : ℤ → ℕ
-down (pos n) = 0
-down (negsuc n) = suc n
 
 pub above-is : (p : ℕ) (z : ℤ) → above p z ≡ p ^ up z
 above-is p (pos n) = refl

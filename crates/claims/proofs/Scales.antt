@@ -14,10 +14,11 @@ use Rattle.label.specs.Symbols.{Symbol, known, unknown}
 use Rattle.label.specs.Limits.{parts-of-one}
 use Rattle.label.specs.Reading.{Term, Reading, prime-in, total}
 use Rattle.label.proofs.Computing.{answers-compute}
+use Rattle.claims.specs.Parts.{up, down}
 use Rattle.claims.specs.Converting.{prime-exponent}
 use Rattle.claims.specs.Sizing.{tens-in, count-in, counts-above, counts-below, tens-of, top, bottom}
 use Rattle.claims.proofs.Coprime.{power-sum}
-use Rattle.claims.proofs.Exactness.{tens, up, down, above-is, below-is, sum-parts, neg-parts}
+use Rattle.claims.proofs.Exactness.{tens, above-is, below-is, sum-parts, neg-parts}
 use Rattle.claims.proofs.Bounds.{every-row, at-row, no-unit}
 
 -- PRODUCTS OF POWERS

@@ -9,10 +9,11 @@ use Rattle.label.specs.Limits.{parts-of-one}
 use Rattle.label.specs.Reading.{Reading, primes}
 use Rattle.label.specs.Conversion.{above, below, fraction}
 use Rattle.claims.specs.Fractions.{Divides, NoCommonFactor, Exact}
+use Rattle.claims.specs.Parts.{up, down}
 use Rattle.claims.specs.Converting.{prime-exponent, Whole, WholeIn, FactorIs}
 use Rattle.claims.specs.Sizing.{top, bottom, SizesGive, SizesGiveTheFactor, FractionExactlyIf}
 use Rattle.claims.proofs.Coprime.{divides-self, common-swap, common-power, power-product}
-use Rattle.claims.proofs.Exactness.{up, down, above-is, below-is, positive-above, positive-below, same-exponent, sub-parts, difference-parts, fraction-exact, two-three, two-487, three-487, two-five, three-five, five-487}
+use Rattle.claims.proofs.Exactness.{above-is, below-is, positive-above, positive-below, same-exponent, sub-parts, difference-parts, fraction-exact, two-three, two-487, three-487, two-five, three-five, five-487}
 use Rattle.claims.proofs.Valuations.{Prime, two-prime, three-prime, five-prime, other-prime, Often, often-none, often-product, often-power, often-itself, often-once, divided, same-base}
 use Rattle.claims.proofs.Scales.{powers, powers-sum, powers-power, times-parts, Factored, factored}
 
@@ -161,25 +162,26 @@ module _ {r q : Reading} {n d : ℕ} {k : ℤ} (s : SizesGive r q n d k) (f : Fa
   equation =
       ap (λ (x : ℕ). (n * above 10 k) ^ parts-of-one * x) (sym (first-is f g)) ∙ s .equal ∙ ap (λ (x : ℕ). (d * below 10 k) ^ parts-of-one * x) (second-is f g)
 
+  -- the exponent of p, of which the first label has i above the line and j below it, and the second k and l
+  whole-of : {p : ℕ} (i j k l : ℕ) → Prime p
+      → Often p (powers (f .x + g .a) (f .y + g .b) (f .z + g .c) (f .w + g .e)) (j + k)
+      → Often p (powers (f .a + g .x) (f .b + g .y) (f .c + g .z) (f .e + g .w)) (i + l)
+      → up (prime-exponent p r) + j ≡ down (prime-exponent p r) + i → up (prime-exponent p q) + l ≡ down (prime-exponent p q) + k → (w : ℤ) × WholeIn p r q w
+  whole-of {p} i j k l t o u e h =
+      let w = difference-of t x-positive y-positive o u equation in
+      (w .0, unbalanced (prime-exponent p r) (prime-exponent p q) (w .0) i j k l e h (w .1))
+
   whole-two : (w : ℤ) × WholeIn 2 r q w
-  whole-two =
-      let w = difference-of two-prime x-positive y-positive (often-two (f .x + g .a) (f .y + g .b) (f .z + g .c) (f .w + g .e)) (often-two (f .a + g .x) (f .b + g .y) (f .c + g .z) (f .e + g .w)) equation in
-      (w .0, unbalanced (prime-exponent 2 r) (prime-exponent 2 q) (w .0) (f .a) (f .x) (g .a) (g .x) (f .two) (g .two) (w .1))
+  whole-two = whole-of (f .a) (f .x) (g .a) (g .x) two-prime (often-two _ _ _ _) (often-two _ _ _ _) (f .two) (g .two)
 
   whole-three : (w : ℤ) × WholeIn 3 r q w
-  whole-three =
-      let w = difference-of three-prime x-positive y-positive (often-three (f .x + g .a) (f .y + g .b) (f .z + g .c) (f .w + g .e)) (often-three (f .a + g .x) (f .b + g .y) (f .c + g .z) (f .e + g .w)) equation in
-      (w .0, unbalanced (prime-exponent 3 r) (prime-exponent 3 q) (w .0) (f .b) (f .y) (g .b) (g .y) (f .three) (g .three) (w .1))
+  whole-three = whole-of (f .b) (f .y) (g .b) (g .y) three-prime (often-three _ _ _ _) (often-three _ _ _ _) (f .three) (g .three)
 
   whole-five : (w : ℤ) × WholeIn 5 r q w
-  whole-five =
-      let w = difference-of five-prime x-positive y-positive (often-five (f .x + g .a) (f .y + g .b) (f .z + g .c) (f .w + g .e)) (often-five (f .a + g .x) (f .b + g .y) (f .c + g .z) (f .e + g .w)) equation in
-      (w .0, unbalanced (prime-exponent 5 r) (prime-exponent 5 q) (w .0) (f .c) (f .z) (g .c) (g .z) (f .five) (g .five) (w .1))
+  whole-five = whole-of (f .c) (f .z) (g .c) (g .z) five-prime (often-five _ _ _ _) (often-five _ _ _ _) (f .five) (g .five)
 
   whole-other : (w : ℤ) × WholeIn 487 r q w
-  whole-other =
-      let w = difference-of other-prime x-positive y-positive (often-487 (f .x + g .a) (f .y + g .b) (f .z + g .c) (f .w + g .e)) (often-487 (f .a + g .x) (f .b + g .y) (f .c + g .z) (f .e + g .w)) equation in
-      (w .0, unbalanced (prime-exponent 487 r) (prime-exponent 487 q) (w .0) (f .e) (f .w) (g .e) (g .w) (f .other) (g .other) (w .1))
+  whole-other = whole-of (f .e) (f .w) (g .e) (g .w) other-prime (often-487 _ _ _ _) (often-487 _ _ _ _) (f .other) (g .other)
 
   sizes-factor : FactorIs r q n d k
   sizes-factor = record {

@@ -1,20 +1,21 @@
 -- The fraction that the code computes is the one of the definitions.
 use Prim.Native.Nat.{ℕ, _+_, _*_, _%_, _≤_, _<_, _^_}
 use native.Mathlib.Omega.{arith}
-use native.Mathlib.Nat.{pow-zero}
-use mathlib.Core.Path.{_≡_, refl, ap, _∙_}
+use mathlib.Core.Path.{_≡_, ap, _∙_}
 use mathlib.Core.Bool.{Bool, _&&_}
 use lib.Dec.{eqb}
-use lib.IntN.{ℤ, pos, negsuc, natAbs, _-ℤ_}
+use lib.IntN.{ℤ, natAbs, _-ℤ_}
 use mir.Syntax.{w64}
 use mir.Val.{toZ, ofZ}
 use mir.Facts.{toZ-ofZ}
 use Rattle.label.specs.Reading.{exponent}
 use Rattle.label.specs.Conversion.{whole-number, above, below, all-whole, fraction, fraction-of}
+use Rattle.claims.specs.Parts.{up, down}
+use Rattle.claims.proofs.Exactness.{above-is, below-is}
 use Rattle.content.proofs.Integers.{wide-fits}
 use Rattle.conversion.specs.declared.answer.Conversion.{Conversion}
 use Rattle.conversion.specs.declared.fraction.ScaleRatio.{ScaleRatio}
-use Rattle.conversion.specs.Powers.{up, down, Held}
+use Rattle.conversion.specs.Powers.{Held}
 use Rattle.conversion.specs.Answers.{ratio-in, SmallRatio, Nearly}
 
 -- a small number is identified by its bits
@@ -58,20 +59,12 @@ ones-told z {y} h e =
 
 -- NUMERATOR AND DENOMINATOR
 
-power-up : (p : ℕ) (z : ℤ) → p ^ up z ≡ above p z
-power-up p (pos n) = refl
-power-up p (negsuc n) = pow-zero p
-
-power-down : (p : ℕ) (z : ℤ) → p ^ down z ≡ below p z
-power-down p (pos n) = pow-zero p
-power-down p (negsuc n) = refl
-
 -- one side of the fraction, of exponents that are given by their bits
-side : (f : ℤ → ℕ) (g : ℕ → ℤ → ℕ) → ((p : ℕ) (z : ℤ) → p ^ f z ≡ g p z) → (t b e : ℤ) → natAbs t < 2 ^ 31 → natAbs b < 2 ^ 30 → natAbs e < 2 ^ 30
+side : (f : ℤ → ℕ) (g : ℕ → ℤ → ℕ) → ((p : ℕ) (z : ℤ) → g p z ≡ p ^ f z) → (t b e : ℤ) → natAbs t < 2 ^ 31 → natAbs b < 2 ^ 30 → natAbs e < 2 ^ 30
     → {x y w n : ℕ} → x ≡ f (toZ w64 (ofZ w64 t)) → y ≡ f (toZ w64 (ofZ w64 b)) → w ≡ f (toZ w64 (ofZ w64 e))
     → Held (2 ^ x * 3 ^ y * 487 ^ w) n → Held (g 2 t * g 3 b * g 487 e) n
 side f g law t b e i j k p q r h =
-    rw (← law 2 t, ← law 3 b, ← law 487 e)
+    rw (law 2 t, law 3 b, law 487 e)
     (rw (p, q, r, bits t i, bits b (omega arith), bits e (omega arith)) at h)
 
 module _ (r : ScaleRatio) {a b c e t : ℤ} (i : Ones (r .twos) a) (j : Ones (r .threes) b) (k : Ones (r .fives) c) (l : Ones (r .others) e)
@@ -90,7 +83,7 @@ module _ (r : ScaleRatio) {a b c e t : ℤ} (i : Ones (r .twos) a) (j : Ones (r 
   unfolding fraction-of fraction
   fraction-is p q o h p' q' o' h' g = record {
     number = g .0;
-    numerator = rw (g .1 .0, ← i .is, ← j .is, ← k .is, ← l .is, ← rest-is) (side up above power-up t b e rest-small (j .small) (l .small) p q o h);
-    denominator = rw (g .1 .1 .0, ← i .is, ← j .is, ← k .is, ← l .is, ← rest-is) (side down below power-down t b e rest-small (j .small) (l .small) p' q' o' h');
+    numerator = rw (g .1 .0, ← i .is, ← j .is, ← k .is, ← l .is, ← rest-is) (side up above above-is t b e rest-small (j .small) (l .small) p q o h);
+    denominator = rw (g .1 .1 .0, ← i .is, ← j .is, ← k .is, ← l .is, ← rest-is) (side down below below-is t b e rest-small (j .small) (l .small) p' q' o' h');
     k = λ m. record { 0 = (g .1 .1 .1 ∙ bits c (omega (arith, k .small)) ∙ k .is) m };
   }

@@ -13,9 +13,9 @@ use borrow.Author.Tests.{ltb-true, ltb-false, lt-leb, le-leb}
 use Rattle.label.specs.Reading.{exponent}
 use Rattle.label.specs.Conversion.{whole-number}
 use Rattle.label.proofs.Basics.{false-true}
+use Rattle.claims.specs.Parts.{up, down}
 use Rattle.content.proofs.HeldSigns.{negative, held-rest, natural, held}
 use Rattle.content.proofs.Integers.{abs-sum, abs-neg, abs-mag, mag-abs, wide-fits}
-use Rattle.conversion.specs.Powers.{up, down}
 
 pub neg-size : (z : ℤ) → natAbs (negℤ z) ≡ natAbs z
 neg-size (pos n) = abs-neg n

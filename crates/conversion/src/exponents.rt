@@ -5,7 +5,7 @@ ghost use Prim.Native.Nat.{_+_, _%_, _<_, _≤_, _^_};
 ghost use lib.IntN.{natAbs, _-ℤ_};
 ghost use Rattle.label.specs.Reading.{exponent};
 ghost use Rattle.label.specs.Conversion.{is-whole, whole-number};
-ghost use Rattle.conversion.specs.Powers as spec;
+ghost use Rattle.claims.specs.Parts.{up, down};
 
 // How large `z` is, up or down.
 fn size(z: i64) -> u64
@@ -19,7 +19,7 @@ fn size(z: i64) -> u64
 
 // `z` where it is not negative, and 0 where it is.
 pub fn above(z: i64) -> u64
-    ensures { λ r. ⌜ r ≡ spec.up z ⌝ }
+    ensures { λ r. ⌜ r ≡ up z ⌝ }
 {
     if z < 0 {
         return 0;
@@ -29,7 +29,7 @@ pub fn above(z: i64) -> u64
 
 // The size of `z` where it is negative, and 0 where it is not.
 pub fn below(z: i64) -> u64
-    ensures { λ r. ⌜ r ≡ spec.down z ⌝ }
+    ensures { λ r. ⌜ r ≡ down z ⌝ }
 {
     if z < 0 {
         return size(z);

@@ -4,14 +4,14 @@ use native.Mathlib.Omega.{arith}
 use native.Mathlib.Decide.{decLt}
 use native.Mathlib.Nat.{zero-sub, sub-zero, suc-sub-suc}
 use mathlib.Core.Path.{_≡_, refl, sym, _∙_, ap}
-use mathlib.Core.Bool.{Bool, true, false, _&&_}
+use mathlib.Core.Bool.{Bool, true, false, _&&_, not}
 use mathlib.Core.List.{List, [], _∷_, _++_}
 use mathlib.Core.Option.{Option, none as nothing, some}
 use lib.Dec.{T, eqb, leb, leb→le}
 use lib.ListN.{take, drop}
 use lib.Seq.{take-nil}
 use borrow.Author.Tests.{eqb-true, lt-leb, le-leb}
-use Rattle.label.specs.Bytes.{letter, digit, nonzero, all, run-on, run, past-on, past, same, close-bracket, point as point-byte, quote, slash as slash-byte, space as space-byte, star as star-byte}
+use Rattle.label.specs.Bytes.{digit-zero, digit-one, digit-nine, within, letter, digit, nonzero, all, run-on, run, past-on, past, same, close-bracket, point as point-byte, quote, slash as slash-byte, space as space-byte, star as star-byte}
 use Rattle.label.specs.Parse.{Found, none, found, then, mapped, byte, closed}
 use Rattle.label.specs.Choice.{pick}
 
@@ -25,6 +25,9 @@ T→true true t = refl
 
 pub true→T : {b : Bool} → b ≡ true → T b
 true→T e = rw e tt
+
+pub T-not : (b : Bool) → T (not b) → b ≡ false
+T-not false t = refl
 
 pub both : (a b : Bool) → T (a && b) → T a × T b
 both true true t = (tt, tt)
@@ -116,23 +119,24 @@ differs p c v t e = go (eqb c v) refl
     go true h = absurd (rw (eqb-true c v h, e) at t)
     go false h = h
 
-pub nonzero-bounds : (c : ℕ) → T (nonzero c) → (49 ≤ c) × (c ≤ 57)
+within-bounds : (a b c : ℕ) → T (within a b c) → (a ≤ c) × (c ≤ b)
+within-bounds a b c t =
+    let w = both (leb a c) (leb c b) t in
+    (leb→le a c (w .0), leb→le c b (w .1))
+
+pub nonzero-bounds : (c : ℕ) → T (nonzero c) → (digit-one ≤ c) × (c ≤ digit-nine)
 unfolding nonzero
-nonzero-bounds c t =
-    let w = both (leb 49 c) (leb c 57) t in
-    (leb→le 49 c (w .0), leb→le c 57 (w .1))
+nonzero-bounds c t = within-bounds digit-one digit-nine c t
+
+pub digit-bounds : (c : ℕ) → T (digit c) → (digit-zero ≤ c) × (c ≤ digit-nine)
+unfolding digit
+digit-bounds c t = within-bounds digit-zero digit-nine c t
 
 pub nonzero-digit : (c : ℕ) → T (nonzero c) → digit c ≡ true
 unfolding digit
 nonzero-digit c t =
     let w = nonzero-bounds c t in
     rw (le-leb 48 c (omega arith), le-leb c 57 (w .1))
-
-pub digit-bounds : (c : ℕ) → T (digit c) → (48 ≤ c) × (c ≤ 57)
-unfolding digit
-digit-bounds c t =
-    let w = both (leb 48 c) (leb c 57) t in
-    (leb→le 48 c (w .0), leb→le c 57 (w .1))
 
 pub digit-no-letter : (c : ℕ) → T (digit c) → letter c ≡ false
 unfolding letter
@@ -166,21 +170,21 @@ pub data Stops (p : ℕ → Bool) : List ℕ → Type 0 where
   end : Stops p []
   other : {c : ℕ} {s : List ℕ} → p c ≡ false → Stops p (c ∷ s)
 
-pub run-of : (p : ℕ → Bool) (s rest : List ℕ) → T (all p s) → Stops p rest → run p (s ++ rest) ≡ s
-unfolding run all
-run-of p [] rest t end = refl
-run-of p [] rest t (other e) = rw e
-run-of p (c ∷ s) rest t h =
+-- s is the run where the class stops after it, and the rest follows
+run-and-past : (p : ℕ → Bool) (s rest : List ℕ) → T (all p s) → Stops p rest → (run p (s ++ rest) ≡ s) × (past p (s ++ rest) ≡ rest)
+unfolding run past all
+run-and-past p [] rest t end = (refl, refl)
+run-and-past p [] rest t (other e) = rw e (refl, refl)
+run-and-past p (c ∷ s) rest t h =
     let w = both (p c) (all p s) t in
-    rw (T→true (p c) (w .0), run-of p s rest (w .1) h)
+    let ih = run-and-past p s rest (w .1) h in
+    rw (T→true (p c) (w .0)) (ap (λ (l : List ℕ). c ∷ l) (ih .0), ih .1)
+
+pub run-of : (p : ℕ → Bool) (s rest : List ℕ) → T (all p s) → Stops p rest → run p (s ++ rest) ≡ s
+run-of p s rest t h = run-and-past p s rest t h .0
 
 pub past-of : (p : ℕ → Bool) (s rest : List ℕ) → T (all p s) → Stops p rest → past p (s ++ rest) ≡ rest
-unfolding past all
-past-of p [] rest t end = refl
-past-of p [] rest t (other e) = rw e
-past-of p (c ∷ s) rest t h =
-    let w = both (p c) (all p s) t in
-    rw (T→true (p c) (w .0), past-of p s rest (w .1) h)
+past-of p s rest t h = run-and-past p s rest t h .1
 
 -- a run and what follows it make the text, and the run is of the class
 pub run-past : (p : ℕ → Bool) (s : List ℕ) → s ≡ run p s ++ past p s

@@ -9,7 +9,7 @@ use Rattle.label.specs.declared.Rules.{Rules}
 use Rattle.label.specs.Bytes.{letter, close-bracket, open-bracket, quote, slash}
 use Rattle.label.specs.Lexical.{Written, Part, part, turned-all, Kind, item, more, product, quotient, Letters, letters, quoted, prefixed}
 use Rattle.label.specs.Parse.{Found, found, then, mapped, byte, closed, unit, stop, times, over, joint, appended, chained, item-at, item-by, more-at, product-at, quotient-on, inside, read}
-use Rattle.label.proofs.Basics.{differs, Ends}
+use Rattle.label.proofs.Basics.{T-not, differs, Ends}
 use Rattle.label.proofs.Signs.{by, by-append, by-nil, by-turned, by-part}
 use Rattle.label.proofs.General.{SpellingBy, ExponentBy, G}
 use Rattle.label.proofs.Joints.{Spells, BeginsItem, times-joint, over-joint, over-leading, begins-leading, end-stops, close-stops, slash-stops, times-ends, over-ends, times-long, over-long}
@@ -175,5 +175,5 @@ complete {r} (G.over {j = j} {s = s} {t = t} {u = u} {ps = ps} {qs = qs} o d m) 
 complete {r} (G.plain {s = s} {t = t} {ps = ps} d) b h (suc k) le =
     rw (complete d b (closes-ends h, closes-stops r h) k (omega (arith, le))) (quotient-ends r _ (by b ps) h)
 complete {r} (G.divided {s = s} {t = t} {u = u} {ps = ps} {qs = qs} f d i) b h (suc k) le =
-    rw (complete d b (Ends.slash, slash-stops r t f) k (omega (arith, le)))
-    (quotient-slash r _ b ps qs t u f (complete i (not b) (closes-ends h) k (omega (arith, le, shorter d))))
+    rw (complete d b (Ends.slash, slash-stops r t (T-not (r .each) f)) k (omega (arith, le)))
+    (quotient-slash r _ b ps qs t u (T-not (r .each) f) (complete i (not b) (closes-ends h) k (omega (arith, le, shorter d))))

@@ -19,7 +19,7 @@ pub derived-parsed : {n : ℕ} {s : List ℕ} {f : Factor} {ps : List Part} → 
 unfolding parse parse-with
 derived-parsed d =
     let w = derives-by d in
-    rw (w .1 .rules) (label-complete (w .1 .coherent) (w .2))
+    rw (w .1 .listed .rules) (label-complete (w .1 .listed .coherent) (w .2))
 
 refused-parsed : {f : Factor} {ps : List Part} → refused ≡ parsed f ps → ⊥
 refused-parsed e = let z : _≡_ {A = ℕ} 0 1 = cc in omega arith

@@ -128,7 +128,7 @@ module _ {m : ℕ} {y : Style} (o : Suited m y) where
 
 pub written-decided : (m : ℕ) → notation m ≡ true → (k : Tens) {ws : List Writable} → AllReady ws → Decided m ws (written m k ws)
 unfolding written written-by
-written-decided m h k s = let w = notation-ruled m h in rw (w .1 .styled) (label-decided (ruled-suited (w .1)) k s)
+written-decided m h k s = let w = notation-ruled m h in rw (w .1 .listed .styled) (label-decided (ruled-suited (w .1)) k s)
 
 -- A LABEL'S OWN NOTATION HAS A FORM FOR IT
 
@@ -194,14 +194,14 @@ no-powers false false c h = (refl, refl, h)
 
 whole-exponent : {n : ℕ} {r : Rules} {t : List ℕ} {w : Written} (b : Bool) (e : Exponent) → RuledBy n r → member n fractionless ≡ true → ExponentBy r t w → exponent-of b w ≡ some e → lowest-terms e .denominator ≡ 1
 unfolding exponent-of ratio
-whole-exponent {r = r} b e o k x h = go x h (no-powers (r .brackets) (r .stars) (r .caret) (o .raised ∙ ap not k))
+whole-exponent {r = r} b e o k x h = go x h (no-powers (r .brackets) (r .stars) (r .caret) (o .listed .raised ∙ ap not k))
   where
     go : {t : List ℕ} {w : Written} → ExponentBy r t w → exponent-of b w ≡ some e → (r .brackets ≡ false) × (r .stars ≡ false) × (r .caret ≡ false) → lowest-terms e .denominator ≡ 1
     go ExponentBy.none h p = whole-lowest b (ratio unwritten) e refl h
     go (ExponentBy.integer {n = n} f i) h p = whole-lowest b (ratio (whole n)) e refl h
-    go (ExponentBy.bracketed f i) h p = absurd (false-true (sym (p .0) ∙ f))
-    go (ExponentBy.stars f i) h p = absurd (false-true (sym (p .1) ∙ f))
-    go (ExponentBy.caret f i) h p = absurd (false-true (sym (p .2) ∙ f))
+    go (ExponentBy.bracketed f i) h p = absurd (rw (p .0) at f)
+    go (ExponentBy.stars f i) h p = absurd (rw (p .1) at f)
+    go (ExponentBy.caret f i) h p = absurd (rw (p .2) at f)
 
 exponent-formed : {n : ℕ} {r : Rules} {t : List ℕ} {w : Written} (b : Bool) (e : Exponent) → RuledBy n r → ExponentBy r t w → exponent-of b w ≡ some e → ExponentForm n e
 exponent-formed {n} b e o x h = go (member n fractionless) refl

@@ -12,7 +12,7 @@ use Rattle.label.specs.declared.Rules.{Rules}
 use Rattle.label.specs.Bytes.{letter, all, run, past, close-bracket, open-bracket, percent, point, quote, slash, space, star}
 use Rattle.label.specs.Choice.{pick}
 use Rattle.label.specs.Parse.{stop, times, over, padded, spaced, joint-at, joint, leading-at, leading}
-use Rattle.label.proofs.Basics.{false-true, none-some, T→true, both, Stops, run-past, run-all, past-of, differs, NoStar, Ends}
+use Rattle.label.proofs.Basics.{none-some, T→true, true→T, both, Stops, run-past, run-all, past-of, differs, NoStar, Ends}
 use Rattle.label.proofs.General.{Pad, TimesBy, OverBy}
 
 -- what begins a spelling
@@ -71,7 +71,7 @@ pad-all (Pad.space f p) = pad-all p
 
 pad-none : {r : Rules} {a : List ℕ} → Pad r a → r .spaces ≡ false → a ≡ []
 pad-none Pad.none e = refl
-pad-none (Pad.space f p) e = absurd (false-true (sym e ∙ f))
+pad-none (Pad.space f p) e = absurd (rw e at f)
 
 pub padded-pad : (r : Rules) {a : List ℕ} → Pad r a → (s : List ℕ) → Stops is-space s → padded r (a ++ s) ≡ s
 unfolding padded
@@ -112,19 +112,19 @@ joint-space r {a} f p s w = go (r .spaces) refl
 
 pub times-joint : (r : Rules) {j : List ℕ} → TimesBy r j → (s : List ℕ) → BeginsItem s → joint r (j ++ s) ≡ times s
 unfolding separates
-times-joint r (TimesBy.space f p) s w = joint-space r f p s w
-times-joint r (TimesBy.star f p q) s w = joint-byte r star p q refl (rw f) s (begins-stops w)
-times-joint r (TimesBy.point f p q) s w = joint-byte r point p q refl (rw f) s (begins-stops w)
+times-joint r (TimesBy.space f p) s w = joint-space r (T→true (r .space) f) p s w
+times-joint r (TimesBy.star f p q) s w = joint-byte r star p q refl (rw (T→true (r .star) f)) s (begins-stops w)
+times-joint r (TimesBy.point f p q) s w = joint-byte r point p q refl (rw (T→true (r .point) f)) s (begins-stops w)
 
 pub over-joint : (r : Rules) {j : List ℕ} → OverBy r j → (s : List ℕ) → BeginsItem s → joint r (j ++ s) ≡ over s
 unfolding joint joint-at
 over-joint r (OverBy.slashed {a = a} {b = b} f p q) s w =
-    rw (append-assoc a (slash ∷ b) s, padded-pad r p (slash ∷ b ++ s) (Stops.other refl), padded-pad r q s (begins-stops w), f)
+    rw (append-assoc a (slash ∷ b) s, padded-pad r p (slash ∷ b ++ s) (Stops.other refl), padded-pad r q s (begins-stops w), T→true (r .each) f)
 
 pub over-leading : (r : Rules) {j : List ℕ} → OverBy r j → (s : List ℕ) → BeginsItem s → leading r (j ++ s) ≡ some s
 unfolding leading leading-at
 over-leading r (OverBy.slashed {a = a} {b = b} f p q) s w =
-    rw (append-assoc a (slash ∷ b) s, padded-pad r p (slash ∷ b ++ s) (Stops.other refl), padded-pad r q s (begins-stops w), f)
+    rw (append-assoc a (slash ∷ b) s, padded-pad r p (slash ∷ b ++ s) (Stops.other refl), padded-pad r q s (begins-stops w), T→true (r .each) f)
 
 -- no slash leads a text that begins with a unit or a group
 pub begins-leading : (r : Rules) {s : List ℕ} → BeginsItem s → leading r s ≡ nothing
@@ -182,7 +182,7 @@ over-long (OverBy.slashed {a = a} {b = b} f p q) = middle-long a b slash
 
 -- WHAT IS FOUND JOINS
 
-all-pad : (r : Rules) → r .spaces ≡ true → (a : List ℕ) → T (all is-space a) → Pad r a
+all-pad : (r : Rules) → T (r .spaces) → (a : List ℕ) → T (all is-space a) → Pad r a
 unfolding all
 all-pad r f [] t = Pad.none
 all-pad r f (c ∷ a) t =
@@ -195,7 +195,7 @@ unfolding padded
 padded-sound r s = go (r .spaces) refl
   where
     go : (b : Bool) → r .spaces ≡ b → (a : List ℕ) × Pad r a × (s ≡ a ++ pick b (past is-space s) s)
-    go true e = (run is-space s, all-pad r e (run is-space s) (run-all is-space s), run-past is-space s)
+    go true e = (run is-space s, all-pad r (true→T e) (run is-space s) (run-all is-space s), run-past is-space s)
     go false e = ([], Pad.none, refl)
 
 stop-times : {u : List ℕ} → stop ≡ times u → ⊥
@@ -216,7 +216,7 @@ spaced-sound r (c ∷ s) u h = go (eqb c space) (r .space) refl refl h
     go true true p q h =
         let w = padded-sound r s in
         let e : padded r s ≡ u = cc in
-        (space ∷ w .0, TimesBy.space q (w .1), rw (eqb-true c space p) (ap (λ (l : List ℕ). space ∷ l) (w .2 ∙ ap (λ (l : List ℕ). w .0 ++ l) e)))
+        (space ∷ w .0, TimesBy.space (true→T q) (w .1), rw (eqb-true c space p) (ap (λ (l : List ℕ). space ∷ l) (w .2 ∙ ap (λ (l : List ℕ). w .0 ++ l) e)))
     go true false p q h = absurd (stop-times h)
     go false y p q h = absurd (stop-times h)
 
@@ -247,10 +247,10 @@ joint-at-times r s [] u p h = absurd (stop-times h)
 joint-at-times r s (c ∷ t) u p h = go (eqb c star) (r .star) (eqb c point) (r .point) (eqb c slash && r .each) refl refl refl refl h
   where
     stars : eqb c star ≡ true → r .star ≡ true → times (padded r t) ≡ times u → (j : List ℕ) × TimesBy r j × (s ≡ j ++ u)
-    stars e f h = let w = between r s t u c star p (eqb-true c star e) (cc) in (w .0 ++ star ∷ w .1, TimesBy.star f (w .2) (w .3), w .4)
+    stars e f h = let w = between r s t u c star p (eqb-true c star e) (cc) in (w .0 ++ star ∷ w .1, TimesBy.star (true→T f) (w .2) (w .3), w .4)
 
     points : eqb c point ≡ true → r .point ≡ true → times (padded r t) ≡ times u → (j : List ℕ) × TimesBy r j × (s ≡ j ++ u)
-    points e f h = let w = between r s t u c point p (eqb-true c point e) (cc) in (w .0 ++ point ∷ w .1, TimesBy.point f (w .2) (w .3), w .4)
+    points e f h = let w = between r s t u c point p (eqb-true c point e) (cc) in (w .0 ++ point ∷ w .1, TimesBy.point (true→T f) (w .2) (w .3), w .4)
 
     rest : (z : Bool) → pick z (over (padded r t)) (spaced r s) ≡ times u → (j : List ℕ) × TimesBy r j × (s ≡ j ++ u)
     rest true h = absurd (over-times h)
@@ -278,7 +278,7 @@ joint-at-over r s (c ∷ t) u p h = go ((eqb c star && r .star) || (eqb c point 
     go : (x y z : Bool) → eqb c slash ≡ y → r .each ≡ z → pick x (times (padded r t)) (pick (y && z) (over (padded r t)) (spaced r s)) ≡ over u
         → (j : List ℕ) × OverBy r j × (s ≡ j ++ u)
     go true y z e f h = absurd (over-times (sym h))
-    go false true true e f h = let w = between r s t u c slash p (eqb-true c slash e) (cc) in (w .0 ++ slash ∷ w .1, OverBy.slashed f (w .2) (w .3), w .4)
+    go false true true e f h = let w = between r s t u c slash p (eqb-true c slash e) (cc) in (w .0 ++ slash ∷ w .1, OverBy.slashed (true→T f) (w .2) (w .3), w .4)
     go false true false e f h = absurd (spaced-no-over r s u h)
     go false false z e f h = absurd (spaced-no-over r s u h)
 
@@ -292,7 +292,7 @@ leading-at-over r s [] u p h = absurd (none-some h)
 leading-at-over r s (c ∷ t) u p h = go (eqb c slash) (r .each) refl refl h
   where
     go : (y z : Bool) → eqb c slash ≡ y → r .each ≡ z → pick (y && z) (some (padded r t)) nothing ≡ some u → (j : List ℕ) × OverBy r j × (s ≡ j ++ u)
-    go true true e f h = let w = between r s t u c slash p (eqb-true c slash e) (cc) in (w .0 ++ slash ∷ w .1, OverBy.slashed f (w .2) (w .3), w .4)
+    go true true e f h = let w = between r s t u c slash p (eqb-true c slash e) (cc) in (w .0 ++ slash ∷ w .1, OverBy.slashed (true→T f) (w .2) (w .3), w .4)
     go true false e f h = absurd (none-some h)
     go false z e f h = absurd (none-some h)
 

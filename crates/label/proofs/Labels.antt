@@ -1,7 +1,7 @@
 -- The whole label: the reading by rules is the general grammar, sound and complete.
 use Prim.Native.Nat.{ℕ, suc, _≤_}
 use native.Mathlib.Omega.{arith}
-use mathlib.Core.Path.{_≡_, refl, ap, sym, _∙_}
+use mathlib.Core.Path.{_≡_, refl, ap, _∙_}
 use mathlib.Core.Bool.{Bool, true, false, _&&_}
 use mathlib.Core.List.{List, [], _∷_, _++_, append-assoc}
 use lib.Dec.{T, eqb}
@@ -13,7 +13,7 @@ use Rattle.label.specs.Choice.{pick}
 use Rattle.label.specs.Lexical.{Factor, no-factor, Part, turned-all, item, product, quotient, Spaces}
 use Rattle.label.specs.Ogip.{Unspaced, unspaced}
 use Rattle.label.specs.Parse.{Found, none, found, read, factor, refused, parsed, ended, one-space, gap, factored, label-by, fuel, parse-by}
-use Rattle.label.proofs.Basics.{false-true, T→true, true→T, both, Stops, run-past, run-all, past-of, differs, letter-no-digit, Ends}
+use Rattle.label.proofs.Basics.{T→true, true→T, both, Stops, run-past, run-all, past-of, differs, letter-no-digit, Ends}
 use Rattle.label.proofs.General.{Pad, OverBy, G, FactorBy, GapBy, LabelBy}
 use Rattle.label.proofs.Joints.{Spells, BeginsItem, is-space, Opens, opens, begins-stops, pad-all}
 use Rattle.label.proofs.LexComplete.{Unfactored, factor-complete, factor-digit}
@@ -26,7 +26,7 @@ use Rattle.label.proofs.Sound.{read-sound}
 -- a unit or a group, or a leading slash after spaces
 pub data Starts (r : Rules) : List ℕ → Type 0 where
   begun : {s : List ℕ} → BeginsItem s → Starts r s
-  slashed : {a : List ℕ} → r .each ≡ true → Pad r a → (s : List ℕ) → Starts r (a ++ slash ∷ s)
+  slashed : {a : List ℕ} → T (r .each) → Pad r a → (s : List ℕ) → Starts r (a ++ slash ∷ s)
 
 product-starts : {r : Rules} {s t : List ℕ} {ps : List Part} → G r product s t ps → Starts r s
 product-starts (G.first d m) = Starts.begun (item-begins d)
@@ -103,7 +103,7 @@ starts-unspaced : {r : Rules} {s : List ℕ} → r .spaces ≡ false → Starts 
 unfolding one-space
 starts-unspaced f (Starts.begun b) = let o = opens b in rw (o .is, o .opener .no-space)
 starts-unspaced f (Starts.slashed e Pad.none s) = refl
-starts-unspaced f (Starts.slashed e (Pad.space g p) s) = absurd (false-true (sym f ∙ g))
+starts-unspaced f (Starts.slashed e (Pad.space g p) s) = absurd (rw f at g)
 
 unpadded : {r : Rules} {g : List ℕ} (s : List ℕ) → r .spaces ≡ false → one-space s ≡ s → GapBy r g → pick (r .space) (one-space (g ++ s)) (g ++ s) ≡ s
 unfolding one-space
@@ -112,8 +112,8 @@ unpadded {r} s e o GapBy.nothing = go (r .space)
     go : (b : Bool) → pick b (one-space s) s ≡ s
     go true = o
     go false = refl
-unpadded s e o (GapBy.one f) = rw f
-unpadded s e o (GapBy.many f p) = absurd (false-true (sym e ∙ f))
+unpadded {r} s e o (GapBy.one f) = rw (T→true (r .space) f)
+unpadded s e o (GapBy.many f p) = absurd (rw e at f)
 
 -- what is read after the gap
 gap-derived : {r : Rules} {g s : List ℕ} {ps : List Part} → GapBy r g → G r quotient s [] ps → G r quotient (gap r (g ++ s)) [] ps
@@ -164,7 +164,7 @@ begun-plainly r (Unfactored.other {c = c} d e f g) o =
 starts-plainly : {r : Rules} {s : List ℕ} → Coherent r → Starts r s → Plainly r s
 unfolding digit
 starts-plainly {r} h (Starts.begun b) = begun-plainly r (begins-unfactored b) (opens b)
-starts-plainly h (Starts.slashed e Pad.none s) = Plainly.plainly refl (h e)
+starts-plainly {r} h (Starts.slashed e Pad.none s) = Plainly.plainly refl (h (T→true (r .each) e))
 starts-plainly h (Starts.slashed e (Pad.space f p) s) = Plainly.plainly refl refl
 
 label-plain : (r : Rules) (f g : List ℕ → Found (List Part)) {s : List ℕ} → Unspaced s → Plainly r s → label-by f g r s ≡ ended no-factor (g s)
@@ -198,10 +198,10 @@ label-complete h LabelBy.empty = refl
 label-complete {r} h (LabelBy.plain {s = s} {ps = ps} u d) =
     label-plain r _ _ u (starts-plainly h (quotient-starts d)) ∙ ended-found no-factor _ ps (complete d false Closes.end (fuel s) (omega arith))
 label-complete {r} h (LabelBy.under {s = s} {ps = ps} f d) =
-    label-under r (λ u. read r (fuel (slash ∷ s)) item true u) _ s f ∙ ended-found no-factor _ (turned-all ps) (complete d true Ends.end (fuel (slash ∷ s)) (omega arith))
+    label-under r (λ u. read r (fuel (slash ∷ s)) item true u) _ s (T→true (r .lead) f) ∙ ended-found no-factor _ (turned-all ps) (complete d true Ends.end (fuel (slash ∷ s)) (omega arith))
 label-complete {r} h (LabelBy.factored {x = x} {g = g} {s = s} {f = n} {ps = ps} l f w d) =
     let c = factor-digit f (g ++ s) in
-    label-factored r _ _ (x ++ (g ++ s)) (c .0) (c .1) (c .2) (c .3) l
+    label-factored r _ _ (x ++ (g ++ s)) (c .0) (c .1) (c .2) (c .3) (T→true (r .factor) l)
     ∙ factored-found _ r _ n (g ++ s) ps
     (factor-complete r f (g ++ s) (gap-unfactored w s (starts-unfactored (quotient-starts d))))
     (complete (gap-derived w d) false Closes.end (fuel (x ++ (g ++ s))) (omega (arith, gap-short r (g ++ s), length-append x (g ++ s))))
@@ -235,7 +235,7 @@ one-space-sound r f [] = ([], GapBy.nothing, refl)
 one-space-sound r f (c ∷ s) = go (eqb c space) refl
   where
     go : (b : Bool) → eqb c space ≡ b → (g : List ℕ) × GapBy r g × (c ∷ s ≡ g ++ pick b s (c ∷ s))
-    go true e = (space ∷ [], GapBy.one f, ap (λ (z : ℕ). z ∷ s) (eqb-true c space e))
+    go true e = (space ∷ [], GapBy.one (true→T f), ap (λ (z : ℕ). z ∷ s) (eqb-true c space e))
     go false e = ([], GapBy.nothing, refl)
 
 gap-sound : (r : Rules) (s : List ℕ) → (g : List ℕ) × GapBy r g × (s ≡ g ++ gap r s)
@@ -243,7 +243,7 @@ unfolding gap
 gap-sound r s = go (r .spaces) (r .space) refl refl
   where
     go : (a b : Bool) → r .spaces ≡ a → r .space ≡ b → (g : List ℕ) × GapBy r g × (s ≡ g ++ pick a (past is-space s) (pick b (one-space s) s))
-    go true b e f = (run is-space s, GapBy.many e (all-spaces (run is-space s) (run-all is-space s)), run-past is-space s)
+    go true b e f = (run is-space s, GapBy.many (true→T e) (all-spaces (run is-space s) (run-all is-space s)), run-past is-space s)
     go false true e f = one-space-sound r f s
     go false false e f = ([], GapBy.nothing, refl)
 
@@ -259,10 +259,10 @@ under-sound : (r : Rules) (k : ℕ) (s : List ℕ) (f : Factor) (ps : List Part)
 under-sound r k s f ps l h =
     let e = ended-sound _ no-factor f ps h in
     let w = read-sound r k item true s ps [] (e .is) in
-    rw (← (e .same), w .signed) (LabelBy.under l (w .derivation))
+    rw (← (e .same), w .signed) (LabelBy.under (true→T l) (w .derivation))
 
 factored-label : {r : Rules} {f : Factor} {ps : List Part} (s x t g u : List ℕ) → s ≡ x ++ t → t ≡ g ++ u → r .factor ≡ true → FactorBy r x f → GapBy r g → G r quotient u [] ps → LabelBy r s f ps
-factored-label s x t g u p q l d w i = rw (p, q) (LabelBy.factored l d w i)
+factored-label s x t g u p q l d w i = rw (p, q) (LabelBy.factored (true→T l) d w i)
 
 factored-sound : (r : Rules) (k : ℕ) (s : List ℕ) (f : Factor) (ps : List Part) → r .factor ≡ true → factored (λ u. read r k quotient false u) r (factor r s) ≡ parsed f ps → LabelBy r s f ps
 unfolding factored

@@ -1,5 +1,5 @@
 -- The letters of an unknown unit, by the grammar: a spelling is a prefix name or nothing, and letters, in quotes or not.
-use Prim.Native.Nat.{ℕ, zero, suc, _+_, _-_, _≤_, _<_}
+use Prim.Native.Nat.{ℕ, suc, _+_, _-_, _≤_, _<_}
 use native.Mathlib.Omega.{arith}
 use mathlib.Core.Path.{_≡_, refl, sym, ap, _∙_}
 use mathlib.Core.Bool.{Bool, true, false}
@@ -15,16 +15,17 @@ use Rattle.label.specs.Bytes.{letter, all, run, past, same, quote}
 use Rattle.label.specs.Choice.{pick}
 use Rattle.label.specs.Prefixes.{Prefix, prefix, prefixes, placed, prefix-named, is-some, prefix-name}
 use Rattle.label.specs.Symbols.{Symbol, known, unknown, Cut, KnownCut, unquoted, follows, cut-by, cuts-from, cuts, known-cuts, longer, longest, by-longest, by-cut, by-whole, by-quote, unit-named, symbol}
-use Rattle.label.specs.Lexical.{Part, Factor, turned-all, Kind, Letters, PrefixName, Quoted}
+use Rattle.label.specs.Lexical.{Part, Letters, PrefixName, Quoted}
 use Rattle.label.specs.Split.{Placed}
 use Rattle.label.specs.Reading.{Term, term, answered, refusal, reading-of, reading}
 use Rattle.label.specs.Letters.{prefix-letters, before-letters, letters-from, letters-start, letters-of, letters-size}
 use Rattle.label.proofs.Basics.{none-some, both, T-and, true→T, differs, same-is, Stops, run-of, past-of, run-past, drop-take}
 use Rattle.label.proofs.Computing.{symbols-compute}
 use Rattle.label.proofs.Cuts.{follows-is}
-use Rattle.label.proofs.General.{SpellingBy, G, LabelBy}
+use Rattle.label.proofs.General.{SpellingBy}
 use Rattle.label.proofs.LexComplete.{prefix-lettered, letters-all}
 use Rattle.label.proofs.Ruled.{derives-by}
+use Rattle.label.proofs.Parts.{AllParts, label-parts}
 use Rattle.label.proofs.Refusals.{Values, valued-values}
 use Rattle.label.proofs.Places.{AllLocated, label-located, located-there}
 use Rattle.label.proofs.Readings.{Answered, answer-of}
@@ -169,37 +170,6 @@ spelling-spelt n (SpellingBy.quoted e (Quoted.quoted {l = l} d)) = quoted-spelt 
 spelling-spelt n (SpellingBy.quoted e (Quoted.prefixed {p = p} {l = l} w d)) =
     rw (append-assoc p (quote ∷ l) (quote ∷ [])) (quoted-spelt n p l (name-named w) (letters-unquoted p (letters-all (prefix-lettered w))) d)
 
--- DERIVATIONS
-
-data AllSpell : List Part → Type 0 where
-  none-spells : AllSpell []
-  spells : {p : Part} {ps : List Part} → ((n : ℕ) → SpelledAs (p .spelling) (symbol n (p .spelling))) → AllSpell ps → AllSpell (p ∷ ps)
-
-joined : {ps qs : List Part} → AllSpell ps → AllSpell qs → AllSpell (ps ++ qs)
-joined AllSpell.none-spells es = es
-joined (AllSpell.spells d ds) es = AllSpell.spells d (joined ds es)
-
-turned : {ps : List Part} → AllSpell ps → AllSpell (turned-all ps)
-turned AllSpell.none-spells = AllSpell.none-spells
-turned (AllSpell.spells d ds) = AllSpell.spells d (turned ds)
-
-spell : {r : Rules} {x : Kind} {s t : List ℕ} {ps : List Part} → G r x s t ps → AllSpell ps
-spell (G.unit d x) = AllSpell.spells (λ n. spelling-spelt n d) AllSpell.none-spells
-spell (G.group d) = spell d
-spell (G.first d m) = joined (spell d) (spell m)
-spell (G.under o d m) = joined (turned (spell d)) (spell m)
-spell G.done = AllSpell.none-spells
-spell (G.times o d m) = joined (spell d) (spell m)
-spell (G.over o d m) = joined (turned (spell d)) (spell m)
-spell (G.plain d) = spell d
-spell (G.divided f d i) = joined (spell d) (turned (spell i))
-
-label-spells : {r : Rules} {s : List ℕ} {f : Factor} {ps : List Part} → LabelBy r s f ps → AllSpell ps
-label-spells LabelBy.empty = AllSpell.none-spells
-label-spells (LabelBy.plain u d) = spell d
-label-spells (LabelBy.under f d) = turned (spell d)
-label-spells (LabelBy.factored l f w d) = spell d
-
 -- TERMS
 
 -- a term's spelling is in the label s where the term says, and stands for the term's symbol
@@ -213,11 +183,11 @@ pub data AllSpelt (s : List ℕ) : List Term → Type 0 where
   none-spelt : AllSpelt s []
   all-spelt : {t : Term} {ts : List Term} → TermSpelt s t → AllSpelt s ts → AllSpelt s (t ∷ ts)
 
-terms-spelt : (n : ℕ) (s : List ℕ) {ps : List Part} {us : List Placed} → Values ps us → AllLocated s ps → AllSpell ps → AllSpelt s (map (term n (length s)) us)
+terms-spelt : (n : ℕ) (s : List ℕ) {r : Rules} {ps : List Part} {us : List Placed} → Values ps us → AllLocated s ps → AllParts r ps → AllSpelt s (map (term n (length s)) us)
 unfolding term
 terms-spelt n s Values.no-values AllLocated.none d = AllSpelt.none-spelt
-terms-spelt n s (Values.value {p = p} e vs) (AllLocated.some w ws) (AllSpell.spells d ds) =
-    AllSpelt.all-spelt (record { spelling = p .spelling; there = located-there w; sized = refl; spelt = d n }) (terms-spelt n s vs ws ds)
+terms-spelt n s (Values.value {p = p} e vs) (AllLocated.some w ws) (AllParts.also d ds) =
+    AllSpelt.all-spelt (record { spelling = p .spelling; there = located-there w; sized = refl; spelt = spelling-spelt n (d .spelled) }) (terms-spelt n s vs ws ds)
 
 pub reading-spelt : (n : ℕ) (s : List ℕ) → AllSpelt s (reading n s .terms)
 unfolding reading answered refusal reading-of
@@ -227,7 +197,7 @@ reading-spelt n s = go (answer-of n s)
     go (Answered.refusing i e d) = rw e AllSpelt.none-spelt
     go (Answered.accepting v a) =
         let l = derives-by (a .derived) .2 in
-        rw (a .checks) (terms-spelt n s (valued-values (a .factor) (a .parts) v (a .within)) (label-located l) (label-spells l))
+        rw (a .checks) (terms-spelt n s (valued-values (a .factor) (a .parts) v (a .within)) (label-located l) (label-parts l))
 
 -- THE PLACE OF THE LETTERS
 

@@ -142,10 +142,10 @@ opened-exponent r s g t o f = rw (o, g) f
 pub exponent-complete : (r : Rules) {e : List ℕ} {w : Written} → ExponentBy r e w → (rest : List ℕ) → Ends rest → exponent r (e ++ rest) ≡ found w rest
 unfolding exponent digit starred
 exponent-complete r ExponentBy.none rest h = no-exponent r h
-exponent-complete r (ExponentBy.integer f i) rest h = numeric-exponent r f (integer-numeric i rest) (integer-complete i rest (no-digit h))
-exponent-complete r (ExponentBy.bracketed f b) rest h = let o = bracketed-complete b rest in opened-exponent r _ f (o .inner) (o .opens) (o .finds)
-exponent-complete r (ExponentBy.stars f p) rest h = rw f (power-complete p rest (no-digit h))
-exponent-complete r (ExponentBy.caret f p) rest h = rw f (power-complete p rest (no-digit h))
+exponent-complete r (ExponentBy.integer f i) rest h = numeric-exponent r (T→true (r .direct) f) (integer-numeric i rest) (integer-complete i rest (no-digit h))
+exponent-complete r (ExponentBy.bracketed f b) rest h = let o = bracketed-complete b rest in opened-exponent r _ (T→true (r .brackets) f) (o .inner) (o .opens) (o .finds)
+exponent-complete r (ExponentBy.stars f p) rest h = rw (T→true (r .stars) f) (power-complete p rest (no-digit h))
+exponent-complete r (ExponentBy.caret f p) rest h = rw (T→true (r .caret) f) (power-complete p rest (no-digit h))
 
 numeric-unlettered : {s : List ℕ} → Numeric s → Unlettered s
 numeric-unlettered (Numeric.numeric a b c d) = Unlettered.other b c
@@ -236,8 +236,8 @@ quoted-spelling r f (Quoted.prefixed {p = p} {l = l} n q) rest =
 pub spelling-complete : (r : Rules) {l : List ℕ} → SpellingBy r l → (rest : List ℕ) → Unlettered rest → spelling r (l ++ rest) ≡ found l rest
 unfolding spelling letter
 spelling-complete r (SpellingBy.letters {l = l} q) rest h = lettered-run r q rest (no-letter h) ∙ lettered-complete r l h
-spelling-complete r (SpellingBy.percent f) rest h = rw f
-spelling-complete r (SpellingBy.quoted f q) rest h = quoted-spelling r f q rest
+spelling-complete r (SpellingBy.percent f) rest h = rw (T→true (r .percent) f)
+spelling-complete r (SpellingBy.quoted f q) rest h = quoted-spelling r (T→true (r .quotes) f) q rest
 
 -- FACTORS
 
@@ -256,7 +256,7 @@ wrapped-complete : (r : Rules) {e : List ℕ} {n : Numeral} → WrappedBy r e n 
 unfolding wrapped digit
 wrapped-complete r (WrappedBy.bare i) rest h = numeric-wrapped r (integer-numeric i rest) (integer-complete i rest h)
 wrapped-complete r (WrappedBy.bracketed {s = s} f i) rest h =
-    rw (f, append-assoc s (close-bracket ∷ []) rest) (closed-complete ten-to _ _ rest (integer-complete i (close-bracket ∷ rest) (Stops.other refl)))
+    rw (T→true (r .wrapped) f, append-assoc s (close-bracket ∷ []) rest) (closed-complete ten-to _ _ rest (integer-complete i (close-bracket ∷ rest) (Stops.other refl)))
 
 -- the digits 10
 ten-complete : (r : Rules) (s : List ℕ) → Stops digit s → factor r (digit-one ∷ digit-zero ∷ s) ≡ ten-factor r (digit-one ∷ digit-zero ∷ []) s
@@ -325,9 +325,9 @@ plain-complete r {k = k} f z rest h =
 pub factor-complete : (r : Rules) {x : List ℕ} {f : Factor} → FactorBy r x f → (rest : List ℕ) → Unfactored rest → factor r (x ++ rest) ≡ found f rest
 unfolding ten-factor starred-factor digit
 factor-complete r (FactorBy.stars {e = e} w) rest h = ten-complete r (star ∷ star ∷ e ++ rest) (Stops.other refl) ∙ wrapped-complete r w rest (undigited h)
-factor-complete r (FactorBy.caret {e = e} f w) rest h = ten-complete r (caret ∷ e ++ rest) (Stops.other refl) ∙ rw (wrapped-complete r w rest (undigited h), f)
-factor-complete r (FactorBy.signed f i) rest h = signed-complete r f i rest (undigited h)
-factor-complete r (FactorBy.plain f p) rest h = plain-complete r f (plain-zeros p) rest h
+factor-complete r (FactorBy.caret {e = e} f w) rest h = ten-complete r (caret ∷ e ++ rest) (Stops.other refl) ∙ rw (wrapped-complete r w rest (undigited h), T→true (r .caret) f)
+factor-complete r (FactorBy.signed f i) rest h = signed-complete r (T→true (r .signed) f) i rest (undigited h)
+factor-complete r (FactorBy.plain f p) rest h = plain-complete r (T→true (r .plain) f) (plain-zeros p) rest h
 
 -- a factor begins with a digit
 pub factor-digit : {r : Rules} {x : List ℕ} {f : Factor} → FactorBy r x f → (rest : List ℕ) → (c : ℕ) × (s : List ℕ) × (x ++ rest ≡ c ∷ s) × (digit c ≡ true)

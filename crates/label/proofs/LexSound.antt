@@ -169,7 +169,7 @@ starred-sound r c (d ∷ s) w rest f p h = go (eqb d star) refl h
     go : (x : Bool) → eqb d star ≡ x → pick x (power s) (found unwritten (c ∷ d ∷ s)) ≡ found w rest → Begins (ExponentBy r) (c ∷ d ∷ s) w rest
     go true q h =
         after (After (star ∷ []) (ExponentBy r)) (ExponentBy r) c star (d ∷ s) w rest p (λ e b. b)
-        (after Power (After (star ∷ []) (ExponentBy r)) d star s w rest q (λ e b. ExponentBy.stars f b) (power-sound s w rest h))
+        (after Power (After (star ∷ []) (ExponentBy r)) d star s w rest q (λ e b. ExponentBy.stars (true→T f) b) (power-sound s w rest h))
     go false q h = unpowered r (c ∷ d ∷ s) w rest h
 
 pub exponent-sound : (r : Rules) (s : List ℕ) (w : Written) (rest : List ℕ) → exponent r s ≡ found w rest → (e : List ℕ) × ExponentBy r e w × (s ≡ e ++ rest)
@@ -183,12 +183,12 @@ exponent-sound r (c ∷ s) w rest h =
         → Begins (ExponentBy r) (c ∷ s) w rest
     go true b x y p q o l h =
         mapped-sound whole Integer (ExponentBy r) (integer (c ∷ s)) (c ∷ s) w rest
-        (λ e n i. ExponentBy.integer (and-right (sign c || digit c) (r .direct) p) i) (λ n q. integer-sound (c ∷ s) n rest q) h
+        (λ e n i. ExponentBy.integer (true→T (and-right (sign c || digit c) (r .direct) p)) i) (λ n q. integer-sound (c ∷ s) n rest q) h
     go false true x y p q o l h =
         after (After (open-bracket ∷ []) Bracketed) (ExponentBy r) c open-bracket s w rest (and-left (eqb c open-bracket) (r .brackets) q)
-        (λ e b. ExponentBy.bracketed (and-right (eqb c open-bracket) (r .brackets) q) b) (bracketed-sound s w rest h)
+        (λ e b. ExponentBy.bracketed (true→T (and-right (eqb c open-bracket) (r .brackets) q)) b) (bracketed-sound s w rest h)
     go false false true y p q o l h =
-        after Power (ExponentBy r) c caret s w rest (and-left (eqb c caret) (r .caret) o) (λ e b. ExponentBy.caret (and-right (eqb c caret) (r .caret) o) b) (power-sound s w rest h)
+        after Power (ExponentBy r) c caret s w rest (and-left (eqb c caret) (r .caret) o) (λ e b. ExponentBy.caret (true→T (and-right (eqb c caret) (r .caret) o)) b) (power-sound s w rest h)
     go false false false true p q o l h = starred-sound r c s w rest (and-right (eqb c star) (r .stars) l) (and-left (eqb c star) (r .stars) l) h
     go false false false false p q o l h = unpowered r (c ∷ s) w rest h
 
@@ -208,7 +208,7 @@ quoted-sound r p c s out rest e make h = go (run letter s) (past letter s) (run-
     go (d ∷ l) t a q h =
         let m = byte-found quote (p ++ quote ∷ d ∷ l ++ quote ∷ []) out t rest h in
         let b = both (letter d) (all letter l) a in (
-          SpellingBy.quoted (and-right (eqb c quote) (r .quotes) e) (rw (m .0) at (make (d ∷ l) (Letters.letters (b .0) (b .1)))),
+          SpellingBy.quoted (true→T (and-right (eqb c quote) (r .quotes) e)) (rw (m .0) at (make (d ∷ l) (Letters.letters (b .0) (b .1)))),
           quoted-text p c s (d ∷ l) t out rest (eqb-true c quote (and-left (eqb c quote) (r .quotes) e)) q (m .1) (m .0),
         )
 
@@ -231,7 +231,7 @@ letters-run c s e = rw e (Letters.letters (true→T e) (run-all letter s))
 percent-sound : (r : Rules) (c : ℕ) (s l rest : List ℕ) → (eqb c percent && r .percent) ≡ true → found (c ∷ []) s ≡ found l rest → SpellingBy r l × (c ∷ s ≡ l ++ rest)
 percent-sound r c s l rest e h =
     let same : c ∷ [] ≡ l = cc in
-    (rw (← same, eqb-true c percent (and-left (eqb c percent) (r .percent) e)) (SpellingBy.percent (and-right (eqb c percent) (r .percent) e)), rw (← same) (cc))
+    (rw (← same, eqb-true c percent (and-left (eqb c percent) (r .percent) e)) (SpellingBy.percent (true→T (and-right (eqb c percent) (r .percent) e))), rw (← same) (cc))
 
 pub spelling-sound : (r : Rules) (s l rest : List ℕ) → spelling r s ≡ found l rest → SpellingBy r l × (s ≡ l ++ rest)
 unfolding spelling
@@ -276,7 +276,7 @@ plain-factor-sound r ds s f rest h = go (plain-digits ds && r .plain) refl h
     go : (b : Bool) → (plain-digits ds && r .plain) ≡ b → pick b (found (zeros (length ds - 1)) s) none ≡ found f rest → Begins (After ds (FactorBy r)) s f rest
     go true e h =
         let same : zeros (length ds - 1) ≡ f = cc in
-        ([], rw (← same, append-nil ds) (FactorBy.plain (and-right (plain-digits ds) (r .plain) e) (plain-sound ds (and-left (plain-digits ds) (r .plain) e))), (cc))
+        ([], rw (← same, append-nil ds) (FactorBy.plain (true→T (and-right (plain-digits ds) (r .plain) e)) (plain-sound ds (and-left (plain-digits ds) (r .plain) e))), (cc))
     go false e h = absurd (none-found h)
 
 -- an integer, bare or in brackets, of which Q holds as a power of ten
@@ -290,7 +290,7 @@ wrapped-sound r Q make (c ∷ s) f rest h = go (eqb c open-bracket && r .wrapped
     go true e h =
         after (After (open-bracket ∷ []) Q) Q c open-bracket s f rest (and-left (eqb c open-bracket) (r .wrapped) e) (λ e q. q)
         (closed-sound ten-to Integer (After (open-bracket ∷ []) Q) (integer s) s f rest
-        (λ x n i. make (open-bracket ∷ x ++ close-bracket ∷ []) n (WrappedBy.bracketed (and-right (eqb c open-bracket) (r .wrapped) e) i)) (λ n t q. integer-sound s n t q) h)
+        (λ x n i. make (open-bracket ∷ x ++ close-bracket ∷ []) n (WrappedBy.bracketed (true→T (and-right (eqb c open-bracket) (r .wrapped) e)) i)) (λ n t q. integer-sound s n t q) h)
     go false e h = mapped-sound ten-to Integer Q (integer (c ∷ s)) (c ∷ s) f rest (λ x n i. make x n (WrappedBy.bare i)) (λ n q. integer-sound (c ∷ s) n rest q) h
 
 -- two stars after the digits 10; c is the first star
@@ -318,10 +318,10 @@ ten-factor-sound r (c ∷ s) f rest h = go (sign c && r .signed) (eqb c caret &&
         → Begins (After (digit-one ∷ digit-zero ∷ []) (FactorBy r)) (c ∷ s) f rest
     go true y z p q o h =
         mapped-sound ten-to Signed (After (digit-one ∷ digit-zero ∷ []) (FactorBy r)) (integer (c ∷ s)) (c ∷ s) f rest
-        (λ e n i. FactorBy.signed (and-right (sign c) (r .signed) p) i) (λ n q. signed-sound c s n rest (and-left (sign c) (r .signed) p) q) h
+        (λ e n i. FactorBy.signed (true→T (and-right (sign c) (r .signed) p)) i) (λ n q. signed-sound c s n rest (and-left (sign c) (r .signed) p) q) h
     go false true z p q o h =
         after (After (digit-one ∷ digit-zero ∷ caret ∷ []) (FactorBy r)) (After (digit-one ∷ digit-zero ∷ []) (FactorBy r)) c caret s f rest (and-left (eqb c caret) (r .caret) q) (λ e b. b)
-        (wrapped-sound r (After (digit-one ∷ digit-zero ∷ caret ∷ []) (FactorBy r)) (λ e n w. FactorBy.caret (and-right (eqb c caret) (r .caret) q) w) s f rest h)
+        (wrapped-sound r (After (digit-one ∷ digit-zero ∷ caret ∷ []) (FactorBy r)) (λ e n w. FactorBy.caret (true→T (and-right (eqb c caret) (r .caret) q)) w) s f rest h)
     go false false true p q o h = starred-factor-sound r c s f rest o h
     go false false false p q o h = plain-factor-sound r (digit-one ∷ digit-zero ∷ []) (c ∷ s) f rest h
 

@@ -110,7 +110,7 @@ unfolding all letter
 percent-no-letter d = letters-all d
 
 percent-flag : {m : ℕ} {r : Rules} → RuledBy m r → m ≡ cds → r .percent ≡ true
-percent-flag {m} o e = o .percent ∙ eq-eqb m 3 e
+percent-flag {m} o e = o .listed .percent ∙ eq-eqb m 3 e
 
 -- a prefix and a name that notation m knows are a spelling there
 pub name-derived : {m : ℕ} {r : Rules} {own : List ℕ} (p : Option ℕ) (u : ℕ) (l : List ℕ) → RuledBy m r → Sourced own (known p u) → has-name m l (unit-at u .names) ≡ true → SpellingBy r (prefix-letters p ++ l)
@@ -118,5 +118,5 @@ name-derived {m} {r} {own} p u l o s h = go (name-spelt m u l h) s
   where
     go : {q : Option ℕ} → NameSpelled m (unit-at u .names) l → Sourced own (known q u) → SpellingBy r (prefix-letters q ++ l)
     go {q} (NameSpelled.in-letters d) s = SpellingBy.letters (letters-prefixed q d)
-    go (NameSpelled.in-percent e f g) (Sourced.bare-name n k) = rw f (SpellingBy.percent (percent-flag o e))
+    go (NameSpelled.in-percent e f g) (Sourced.bare-name n k) = rw f (SpellingBy.percent (true→T (percent-flag o e)))
     go (NameSpelled.in-percent e f g) (Sourced.letter-name n k d) = absurd (percent-no-letter (rw (g n own k) at d))

@@ -312,5 +312,5 @@ percent-sourced = Sourced.bare-name 3 refl
 pub spelling-sourced : {n : ℕ} {r : Rules} {s : List ℕ} → RuledBy n r → SpellingBy r s → Sourced (own-letters (symbol n s) s) (symbol n s)
 unfolding own-letters
 spelling-sourced {n} {s = s} o (SpellingBy.letters d) = owned-sourced (letters-all d) (letters-owned n d)
-spelling-sourced {n} o (SpellingBy.percent f) = rw (eqb-true n 3 (sym (o .percent) ∙ f)) percent-sourced
+spelling-sourced {n} {r} o (SpellingBy.percent f) = rw (eqb-true n 3 (sym (o .listed .percent) ∙ T→true (r .percent) f)) percent-sourced
 spelling-sourced {n} o (SpellingBy.quoted f d) = let w = quoted-as n d in rw (w .reads) (Sourced.no-unit-name (w .spelled) (w .named))

@@ -25,7 +25,7 @@ use Rattle.label.specs.Agreement.{Raised, raised-term}
 use Rattle.label.specs.Letters.{prefix-letters}
 use Rattle.label.specs.Writing.{sign-text, figures, factor-text, exponent-text, name-in, named-text, symbol-text, own-letters, writable, written-reading, Writable, both-texts, unit-text, more-text, label-text, written-by, written}
 use Rattle.label.specs.Rows.{Style, style-of}
-use Rattle.label.proofs.Basics.{none-some, T→true}
+use Rattle.label.proofs.Basics.{none-some, T→true, true→T}
 use Rattle.label.proofs.General.{G, LabelBy}
 use Rattle.label.proofs.Joints.{opens}
 use Rattle.label.proofs.Complete.{item-begins}
@@ -117,7 +117,7 @@ joined {y} {r} {m} {w} {ws} {s} {t} v u x = record {
   parts = part (u .spelling) (u .power .power) (u .raised ++ t) ∷ x .parts;
   derived = G.times {ps = part (u .spelling) (u .power .power) (u .raised ++ t) ∷ []} (v .joint) (item-derived u t) (x .derived);
   answers = unit-answers u (u .raised ++ t) (x .answers);
-  fine = fine-append (fine-quiet (y .joint) (v .quiet-joint)) (fine-append (unit-fine u) (x .fine));
+  fine = fine-append (fine-quiet (y .joint) (v .agrees .quiet-joint)) (fine-append (unit-fine u) (x .fine));
 }
 
 more-read : {y : Style} {r : Rules} {m : ℕ} → Suits y r → RuledBy m r → {ws : List Writable} → AllReady ws → (t : List ℕ) → more-text y m ws ≡ some t → MoreRead y m r ws t
@@ -178,10 +178,10 @@ factored-label {y} {s = s} {t = t} k v low high u x = record {
   factor = ten-to (record { negative = negative (k .0); digits = figures (natAbs (k .0)) });
   parts = part (u .spelling) (u .power .power) (u .raised ++ t) ∷ x .parts;
   derived = rw (append-assoc (y .ten ++ (sign-text (y .signed) (negative (k .0)) ++ figures (natAbs (k .0)))) (y .gap) (s ++ t))
-      (LabelBy.factored (v .may-lead) (v .factor (negative (k .0)) (d .unsigned)) (v .gap) (product-derived u x));
+      (LabelBy.factored (true→T (v .agrees .may-lead)) (v .factor (negative (k .0)) (d .unsigned)) (v .gap) (product-derived u x));
   answers = unit-answers u (u .raised ++ t) (x .answers);
   power = factor-value (k .0) (figures (natAbs (k .0))) d high;
-  fine = fine-append (fine-append (fine-append (fine-quiet (y .ten) (v .quiet-ten)) numeral) (fine-quiet (y .gap) (v .quiet-gap))) (fine-append (unit-fine u) (x .fine));
+  fine = fine-append (fine-append (fine-append (fine-quiet (y .ten) (v .agrees .quiet-ten)) numeral) (fine-quiet (y .gap) (v .agrees .quiet-gap))) (fine-append (unit-fine u) (x .fine));
 }
   where
     d : Digited (natAbs (k .0)) (figures (natAbs (k .0)))
@@ -281,7 +281,7 @@ label-checked : {y : Style} {m : ℕ} {r : Rules} {k : Tens} {ws : List Writable
 unfolding checked unless check-grammar check-values check-counts valued valued-with
 label-checked {m} {t = t} o d u h g =
     rw (
-      o .is-notation,
+      o .listed .is-notation,
       le-leb (length t) 255 h,
       T→true (all admitted t) (d .fine .bytes),
       derived-parsed (o .derives (d .derived)),

@@ -4,15 +4,13 @@ use mathlib.Core.Path.{_≡_, refl, sym, _∙_}
 use mathlib.Core.Bool.{Bool, true, false, _||_, not}
 use mathlib.Core.List.{List, [], _∷_, map}
 use mathlib.Core.Option.{Option, some}
-use lib.Dec.{eqb}
+use lib.Dec.{T, eqb}
 use borrow.Author.Tests.{eqb-true}
 use Rattle.label.specs.declared.Rules.{Rules}
-use Rattle.label.specs.Bytes.{bytes, admitted, all}
+use Rattle.label.specs.Bytes.{bytes, point, admitted, all}
 use Rattle.label.specs.Notations.{Notations, member, everywhere, fractionless, notation}
 use Rattle.label.specs.Rows.{fits-rules, ogip-rules, cds-rules, vounits-rules, ruled, rules-of, Row, value-among, Style, fits-style, ogip-style, cds-style, vounits-style, styled, style-of}
 use Rattle.label.specs.Lexical.{Factor, Part, Power}
-use Rattle.label.specs.Cds as Cds
-use Rattle.label.specs.Vounits as Vounits
 use Rattle.label.specs.Grammar.{Derives, Spelling}
 use Rattle.label.proofs.Basics.{false-true, none-some}
 use Rattle.label.proofs.General.{Pad, TimesBy, ExponentBy, WrappedBy, FactorBy, GapBy, SpellingBy, LabelBy}
@@ -21,168 +19,90 @@ use Rattle.label.proofs.Instances.{fits-label, label-fits, spelling-fit
 use Rattle.label.proofs.Texts.{quiet}
 use Rattle.label.proofs.Styles.{Suits, integer-by, signed-by}
 
+-- notation n has the rules r and the style y in the tables, and they are what document 01 says of single notations
+pub record Listed (n : ℕ) (r : Rules) (y : Style) : Type 0 where
+  pub is-notation : notation n ≡ true
+  pub rules : rules-of n ≡ some r
+  pub styled : style-of n ≡ some y
+  pub coherent : Coherent r
+  pub percent : r .percent ≡ eqb n 3
+  pub raised : (r .brackets || (r .stars || r .caret)) ≡ not (member n fractionless)
+  pub fractions : y .fractions ≡ not (member n fractionless)
+
 -- notation n has the rules r
 pub record RuledBy (n : ℕ) (r : Rules) : Type 0 where
   -- its own grammar and spellings are those by its rules
   pub derives : {s : List ℕ} {f : Factor} {ps : List Part} → LabelBy r s f ps → Derives n s f ps
-  pub spelled : {l : List ℕ} → Spelling n l → SpellingBy r l
   pub spells : {l : List ℕ} → SpellingBy r l → Spelling n l
-  -- its rows in the tables
-  pub is-notation : notation n ≡ true
-  pub rules : rules-of n ≡ some r
+  -- its rows in the tables, and what the rules and the style have to do with each other
   pub style : Style
-  pub styled : style-of n ≡ some style
-  -- what the rules and the style have to do with each other and with what document 01 says of single notations
-  pub coherent : Coherent r
-  pub percent : r .percent ≡ eqb n 3
-  pub raised : (r .brackets || (r .stars || r .caret)) ≡ not (member n fractionless)
+  pub listed : Listed n r style
   pub suits : Suits style r
-  pub fractions : style .fractions ≡ not (member n fractionless)
 
 -- THE NOTATIONS
 
-spelled-fits : {l : List ℕ} → Spelling 1 l → SpellingBy fits-rules l
-spelled-fits (Spelling.fits d) = SpellingBy.letters d
+point-alone : {r : Rules} → T (r .point) → TimesBy r (point ∷ [])
+point-alone e = TimesBy.point e Pad.none Pad.none
 
-suits-fits : Suits fits-style fits-rules
-unfolding bytes all quiet admitted
-suits-fits = record {
-  quotes = refl;
-  joint = TimesBy.space refl Pad.none;
-  whole = λ i. ExponentBy.integer refl i;
-  brackets = λ e b. ExponentBy.bracketed refl b;
-  may-lead = refl;
-  factor = λ b u. FactorBy.stars (WrappedBy.bare (integer-by b u));
-  gap = GapBy.one refl;
-  quiet-joint = tt;
-  quiet-raise = tt;
-  quiet-ten = tt;
-  quiet-gap = tt;
-}
+-- the forms in which a style writes, and what is computed of it
+ruleset forms = (
+  tt,
+  false-true,
+  TimesBy.space,
+  point-alone,
+  Pad.none,
+  ExponentBy.integer,
+  ExponentBy.bracketed,
+  ExponentBy.stars,
+  Power.integer,
+  Power.bracketed,
+  FactorBy.stars,
+  FactorBy.signed,
+  WrappedBy.bare,
+  integer-by,
+  signed-by,
+  GapBy.nothing,
+  GapBy.one,
+)
 
 fits-ruled : RuledBy 1 fits-rules
-unfolding member notation value-among rules-of ruled style-of styled
+unfolding bytes all quiet admitted member notation value-among rules-of ruled style-of styled
 fits-ruled = record {
   derives = λ d. Derives.fits (label-fits d);
-  spelled = spelled-fits;
   spells = λ d. Spelling.fits (spelling-fits d);
-  is-notation = refl;
-  rules = refl;
   style = fits-style;
-  styled = refl;
-  coherent = λ e. absurd (false-true e);
-  percent = refl;
-  raised = refl;
-  suits = suits-fits;
-  fractions = refl;
-}
-
-spelled-ogip : {l : List ℕ} → Spelling 2 l → SpellingBy ogip-rules l
-spelled-ogip (Spelling.ogip d) = SpellingBy.letters d
-
-suits-ogip : Suits ogip-style ogip-rules
-unfolding bytes all quiet admitted
-suits-ogip = record {
-  quotes = refl;
-  joint = TimesBy.space refl Pad.none;
-  whole = λ i. ExponentBy.stars refl (Power.integer i);
-  brackets = λ e b. ExponentBy.stars refl (Power.bracketed b);
-  may-lead = refl;
-  factor = λ b u. FactorBy.stars (WrappedBy.bare (integer-by b u));
-  gap = GapBy.one refl;
-  quiet-joint = tt;
-  quiet-raise = tt;
-  quiet-ten = tt;
-  quiet-gap = tt;
+  listed = search sym;
+  suits = search forms;
 }
 
 ogip-ruled : RuledBy 2 ogip-rules
-unfolding member notation value-among rules-of ruled style-of styled
+unfolding bytes all quiet admitted member notation value-among rules-of ruled style-of styled
 ogip-ruled = record {
   derives = λ d. Derives.ogip (label-ogip d);
-  spelled = spelled-ogip;
   spells = λ d. Spelling.ogip (spelling-ogip d);
-  is-notation = refl;
-  rules = refl;
   style = ogip-style;
-  styled = refl;
-  coherent = λ e. refl;
-  percent = refl;
-  raised = refl;
-  suits = suits-ogip;
-  fractions = refl;
-}
-
-spelled-cds : {l : List ℕ} → Spelling 3 l → SpellingBy cds-rules l
-spelled-cds (Spelling.cds d) = cds-spelling d
-
-suits-cds : Suits cds-style cds-rules
-unfolding bytes all quiet admitted
-suits-cds = record {
-  quotes = refl;
-  joint = TimesBy.point refl Pad.none Pad.none;
-  whole = λ i. ExponentBy.integer refl i;
-  brackets = λ e b. absurd (false-true e);
-  may-lead = refl;
-  factor = λ b u. FactorBy.signed refl (signed-by b u);
-  gap = GapBy.nothing;
-  quiet-joint = tt;
-  quiet-raise = tt;
-  quiet-ten = tt;
-  quiet-gap = tt;
+  listed = search;
+  suits = search forms;
 }
 
 cds-ruled : RuledBy 3 cds-rules
-unfolding member notation value-among rules-of ruled style-of styled
+unfolding bytes all quiet admitted member notation value-among rules-of ruled style-of styled
 cds-ruled = record {
   derives = λ d. Derives.cds (label-cds d);
-  spelled = spelled-cds;
   spells = λ d. Spelling.cds (spelling-cds d);
-  is-notation = refl;
-  rules = refl;
   style = cds-style;
-  styled = refl;
-  coherent = λ e. refl;
-  percent = refl;
-  raised = refl;
-  suits = suits-cds;
-  fractions = refl;
-}
-
-spelled-vounits : {l : List ℕ} → Spelling 4 l → SpellingBy vounits-rules l
-spelled-vounits (Spelling.vounits d) = vounits-spelling d
-
-suits-vounits : Suits vounits-style vounits-rules
-unfolding bytes all quiet admitted
-suits-vounits = record {
-  quotes = refl;
-  joint = TimesBy.point refl Pad.none Pad.none;
-  whole = λ i. ExponentBy.stars refl (Power.integer i);
-  brackets = λ e b. ExponentBy.stars refl (Power.bracketed b);
-  may-lead = refl;
-  factor = λ b u. FactorBy.stars (WrappedBy.bare (integer-by b u));
-  gap = GapBy.nothing;
-  quiet-joint = tt;
-  quiet-raise = tt;
-  quiet-ten = tt;
-  quiet-gap = tt;
+  listed = search;
+  suits = search forms;
 }
 
 vounits-ruled : RuledBy 4 vounits-rules
-unfolding member notation value-among rules-of ruled style-of styled
+unfolding bytes all quiet admitted member notation value-among rules-of ruled style-of styled
 vounits-ruled = record {
   derives = λ d. Derives.vounits (label-vounits d);
-  spelled = spelled-vounits;
   spells = λ d. Spelling.vounits (spelling-vounits d);
-  is-notation = refl;
-  rules = refl;
   style = vounits-style;
-  styled = refl;
-  coherent = λ e. absurd (false-true e);
-  percent = refl;
-  raised = refl;
-  suits = suits-vounits;
-  fractions = refl;
+  listed = search;
+  suits = search forms;
 }
 
 -- a notation's derivations are those of the general grammar by its rules
@@ -191,6 +111,19 @@ derives-by (Derives.fits d) = (fits-rules, fits-ruled, fits-label d)
 derives-by (Derives.ogip d) = (ogip-rules, ogip-ruled, ogip-label d)
 derives-by (Derives.cds d) = (cds-rules, cds-ruled, cds-label d)
 derives-by (Derives.vounits d) = (vounits-rules, vounits-ruled, vounits-label d)
+
+spelling-by : {n : ℕ} {l : List ℕ} → Spelling n l → (r : Rules) × RuledBy n r × SpellingBy r l
+spelling-by (Spelling.fits d) = (fits-rules, fits-ruled, SpellingBy.letters d)
+spelling-by (Spelling.ogip d) = (ogip-rules, ogip-ruled, SpellingBy.letters d)
+spelling-by (Spelling.cds d) = (cds-rules, cds-ruled, cds-spelling d)
+spelling-by (Spelling.vounits d) = (vounits-rules, vounits-ruled, vounits-spelling d)
+
+-- a notation has no other rules
+rules-once : {n : ℕ} {r q : Rules} → RuledBy n r → rules-of n ≡ some q → r ≡ q
+rules-once {r = r} {q = q} o h = let e : some r ≡ some q = sym (o .listed .rules) ∙ h in cc
+
+pub spelled-by : {n : ℕ} {r : Rules} {l : List ℕ} → RuledBy n r → Spelling n l → SpellingBy r l
+spelled-by o d = let w = spelling-by d in rw (rules-once (w .1) (o .listed .rules)) at (w .2)
 
 -- the notations' rules, in the order of their numbers
 data AllRuled : Notations → Type 0 where
@@ -231,11 +164,7 @@ unfolding rules-of ruled notation
 rules-notation n r h = value-member n r ruled h
 
 pub rules-ruled : (n : ℕ) (r : Rules) → rules-of n ≡ some r → RuledBy n r
-rules-ruled n r h =
-    let w = notation-ruled n (rules-notation n r h) in
-    let e : some (w .0) ≡ some r = sym (w .1 .rules) ∙ h in
-    let q : w .0 ≡ r = cc in
-    rw q at (w .1)
+rules-ruled n r h = let w = notation-ruled n (rules-notation n r h) in rw (rules-once (w .1) h) at (w .1)
 
 style-notation : (n : ℕ) (y : Style) → style-of n ≡ some y → notation n ≡ true
 unfolding style-of styled notation
@@ -249,11 +178,11 @@ pub record Suited (m : ℕ) (y : Style) : Type 0 where
   pub fractions : y .fractions ≡ not (member m fractionless)
 
 abbrev pub ruled-suited : {m : ℕ} {r : Rules} (o : RuledBy m r) → Suited m (o .style)
-ruled-suited {r = r} o = record { rules = r; ruled = o; suits = o .suits; fractions = o .fractions }
+ruled-suited {r = r} o = record { rules = r; ruled = o; suits = o .suits; fractions = o .listed .fractions }
 
 pub suited : (m : ℕ) (y : Style) → style-of m ≡ some y → Suited m y
 suited m y h =
     let w = notation-ruled m (style-notation m y h) in
-    let e : some (w .1 .style) ≡ some y = sym (w .1 .styled) ∙ h in
+    let e : some (w .1 .style) ≡ some y = sym (w .1 .listed .styled) ∙ h in
     let q : w .1 .style ≡ y = cc in
     rw q at (ruled-suited (w .1))

@@ -160,7 +160,7 @@ module _ (r : Rules) (b : Bool) where
           let j = gs u (w .value) t (w .one) in
           record {
             parts = i .parts ++ turned-all (j .parts);
-            derivation = G.divided e (i .derivation) (j .derivation);
+            derivation = G.divided (rw e tt) (i .derivation) (j .derivation);
             signed = sym (w .is) ∙ ap (λ (l : List Part). l ++ w .value) (i .signed) ∙ ap (λ (l : List Part). by b (i .parts) ++ l) (j .signed)
                 ∙ ap (λ (l : List Part). by b (i .parts) ++ l) (sym (by-turned b (j .parts))) ∙ sym (by-append b (i .parts) (turned-all (j .parts)));
           }

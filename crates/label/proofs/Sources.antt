@@ -9,7 +9,7 @@ use mathlib.Core.List.{List, [], _∷_, _++_, map}
 use mathlib.Core.Option.{Option, none, some}
 use lib.Dec.{eqb, leb}
 use lib.IntN.{pos, natAbs}
-use lib.ListN.{length, take, drop}
+use lib.ListN.{length, take, drop, length-map}
 use borrow.Author.Tests.{eqb-true, eqb-false, eq-eqb, leb-true, le-leb}
 use Rattle.label.specs.declared.Rules.{Rules}
 use Rattle.label.specs.declared.Exponent.{Exponent}
@@ -212,16 +212,12 @@ pub record Kept (k : Tens) (ws : List Writable) : Type 0 where
   pub headed : ws ≡ [] → k ≡ record { 0 = pos 0 }
   pub few : length ws ≤ 32
 
-map-length : {A B : Type 0} (f : A → B) (l : List A) → length (map f l) ≡ length l
-map-length f [] = refl
-map-length f (x ∷ l) = ap suc (map-length f l)
-
 pub accepted-kept : {n : ℕ} {s : List ℕ} {v : Valued} → Accepted n s v → Kept (v .k) (map (writable s) (map (term n (length s)) (v .units)))
 accepted-kept {n} {s} {v} a =
     let d = derives-by (a .derived) .2 in
     let u = valued-values (a .factor) (a .parts) v (a .within) in
     let k = valued-k (a .factor) (a .parts) v (a .within) in
-    let c = map-length (writable s) (map (term n (length s)) (v .units)) ∙ map-length (term n (length s)) (v .units) ∙ values-length u in
+    let c = length-map (map (term n (length s)) (v .units)) (writable s) ∙ length-map (v .units) (term n (length s)) ∙ values-length u in
     record {
       ready = units-ready (derives-by (a .derived) .1) s (label-parts d) (label-located d) u;
       high = k-within (a .factor) (v .k) k;

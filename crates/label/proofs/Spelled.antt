@@ -22,7 +22,7 @@ use Rattle.label.specs.Limits.{signed, negative, ratio, exponent-of}
 use Rattle.label.specs.Letters.{prefix-letters}
 use Rattle.label.specs.Writing.{sign-text, figures, whole-text, fraction-text, power-text, exponent-text, same-prefix, same-symbol, reads-as, name-among, name-in, named-text, in-quotes, unknown-text, symbol-text}
 use Rattle.label.specs.Rows.{Style}
-use Rattle.label.proofs.Basics.{none-some, false-true, and-left, and-right, same-is}
+use Rattle.label.proofs.Basics.{none-some, false-true, true→T, and-left, and-right, same-is}
 use Rattle.label.proofs.General.{SpellingBy, ExponentBy}
 use Rattle.label.proofs.Figures.{Digited, figures-of, Lowered, lowered, ratio-back, signed-size}
 use Rattle.label.proofs.Texts.{quiet, all-append, unsigned-quiet, Fine, fine-quiet, fine-append, fine-brackets}
@@ -90,7 +90,7 @@ module _ {y : Style} {r : Rules} (v : Suits y r) (b : Bool) {e p q : ℕ} (w : L
     power = whole (record { negative = b; digits = figures p });
     derived = v .brackets (wide (y .wrapped) b (y .fractions) h) (Bracketed.an-integer (integer-by b (numerator-of .unsigned)));
     value = whole-value b e p (figures p) numerator-of o high;
-    fine = fine-append (fine-quiet (y .raise) (v .quiet-raise)) (fine-brackets (sign-text false b ++ figures p) numeral-quiet);
+    fine = fine-append (fine-quiet (y .raise) (v .agrees .quiet-raise)) (fine-brackets (sign-text false b ++ figures p) numeral-quiet);
   }
     where
       wide : (x z a : Bool) → (x && z) ≡ true → (x || a) ≡ true
@@ -99,7 +99,7 @@ module _ {y : Style} {r : Rules} (v : Suits y r) (b : Bool) {e p q : ℕ} (w : L
     power = whole (record { negative = b; digits = figures p });
     derived = v .whole (integer-by b (numerator-of .unsigned));
     value = whole-value b e p (figures p) numerator-of o high;
-    fine = fine-append (fine-quiet (y .raise) (v .quiet-raise)) (fine-quiet (sign-text false b ++ figures p) numeral-quiet);
+    fine = fine-append (fine-quiet (y .raise) (v .agrees .quiet-raise)) (fine-quiet (sign-text false b ++ figures p) numeral-quiet);
   }
 
   fraction-read : y .fractions ≡ true → PowerRead r (record { 0 = signed b e }) (fraction-text y b p q)
@@ -107,7 +107,7 @@ module _ {y : Style} {r : Rules} (v : Suits y r) (b : Bool) {e p q : ℕ} (w : L
     power = fraction (record { negative = b; digits = figures p }) (figures q);
     derived = v .brackets (wide (y .wrapped)) (Bracketed.a-fraction (integer-by b (numerator-of .unsigned)) (denominator-of .unsigned));
     value = fraction-value b e p q (figures p) (figures q) numerator-of denominator-of w high;
-    fine = fine-append (fine-quiet (y .raise) (v .quiet-raise)) brackets;
+    fine = fine-append (fine-quiet (y .raise) (v .agrees .quiet-raise)) brackets;
   }
     where
       wide : (x : Bool) → (x || y .fractions) ≡ true
@@ -168,11 +168,11 @@ read-as m l x h = same-symbol-is (symbol m l) x h
 -- letters in quotes, after a prefix or none
 pub quoted-read : {r : Rules} (m : ℕ) (p : Option ℕ) (l : List ℕ) → r .quotes ≡ true → Letters l → prefix-named (prefix-letters p) ≡ p → SpellingRead m r (unknown p l) (prefix-letters p ++ in-quotes l)
 unfolding prefix-name
-quoted-read m none l f d e = record { derived = SpellingBy.quoted f (Quoted.quoted d); is = quoted-symbol m [] l (prefix-unquoted none) d ∙ ap (λ (q : Option ℕ). unknown q l) e }
+quoted-read m none l f d e = record { derived = SpellingBy.quoted (true→T f) (Quoted.quoted d); is = quoted-symbol m [] l (prefix-unquoted none) d ∙ ap (λ (q : Option ℕ). unknown q l) e }
 quoted-read m (some i) l f d e =
     let n : PrefixName (prefix-letters (some i)) = PrefixName.named {p = prefix-letters (some i)} (rw e tt) in
     record {
-      derived = SpellingBy.quoted f (rw (append-assoc (prefix-letters (some i)) (quote ∷ l) (quote ∷ [])) at (Quoted.prefixed n d));
+      derived = SpellingBy.quoted (true→T f) (rw (append-assoc (prefix-letters (some i)) (quote ∷ l) (quote ∷ [])) at (Quoted.prefixed n d));
       is = quoted-symbol m (prefix-letters (some i)) l (prefix-unquoted (some i)) d ∙ ap (λ (q : Option ℕ). unknown q l) e;
     }
 
@@ -248,7 +248,7 @@ module _ {y : Style} {r : Rules} {m : ℕ} (v : Suits y r) (o : RuledBy m r) whe
 
   unknown-read : {p : Option ℕ} {l t : List ℕ} → Letters l → prefix-named (prefix-letters p) ≡ p → UnknownText y m p l t → SpellingRead m r (unknown p l) t
   unknown-read {p} {l} d n (UnknownText.plainly e) = record { derived = SpellingBy.letters (letters-prefixed p d); is = read-as m (prefix-letters p ++ l) (unknown p l) e }
-  unknown-read {p} {l} d n (UnknownText.quoted e f) = quoted-read m p l (sym (v .quotes) ∙ f) d n
+  unknown-read {p} {l} d n (UnknownText.quoted e f) = quoted-read m p l (sym (v .agrees .quotes) ∙ f) d n
 
   -- what is written for a unit is read as that unit
   pub symbol-read : {own : List ℕ} {x : Symbol} (t : List ℕ) → Sourced own x → symbol-text y m own x ≡ some t → SpellingRead m r x t

@@ -12,19 +12,23 @@ use Rattle.label.specs.Writing.{sign-text}
 use Rattle.label.proofs.General.{TimesBy, ExponentBy, FactorBy, GapBy}
 use Rattle.label.proofs.Texts.{quiet}
 
--- what a style needs of the rules by which its texts are read
-pub record Suits (y : Style) (r : Rules) : Type 0 where
+-- what the rows of a style and of the rules by which its texts are read say
+pub record Agrees (y : Style) (r : Rules) : Type 0 where
   pub quotes : y .quotes ≡ r .quotes
-  pub joint : TimesBy r (y .joint)
-  pub whole : {s : List ℕ} {n : Numeral} → Integer s n → ExponentBy r (y .raise ++ s) (whole n)
-  pub brackets : (y .wrapped || y .fractions) ≡ true → {s : List ℕ} {w : Written} → Bracketed s w → ExponentBy r (y .raise ++ s) w
   pub may-lead : r .factor ≡ true
-  pub factor : (b : Bool) {ds : List ℕ} → Unsigned ds → FactorBy r (y .ten ++ (sign-text (y .signed) b ++ ds)) (ten-to (record { negative = b; digits = ds }))
-  pub gap : GapBy r (y .gap)
   pub quiet-joint : T (all quiet (y .joint))
   pub quiet-raise : T (all quiet (y .raise))
   pub quiet-ten : T (all quiet (y .ten))
   pub quiet-gap : T (all quiet (y .gap))
+
+-- what a style needs of the rules by which its texts are read
+pub record Suits (y : Style) (r : Rules) : Type 0 where
+  pub agrees : Agrees y r
+  pub joint : TimesBy r (y .joint)
+  pub whole : {s : List ℕ} {n : Numeral} → Integer s n → ExponentBy r (y .raise ++ s) (whole n)
+  pub brackets : (y .wrapped || y .fractions) ≡ true → {s : List ℕ} {w : Written} → Bracketed s w → ExponentBy r (y .raise ++ s) w
+  pub factor : (b : Bool) {ds : List ℕ} → Unsigned ds → FactorBy r (y .ten ++ (sign-text (y .signed) b ++ ds)) (ten-to (record { negative = b; digits = ds }))
+  pub gap : GapBy r (y .gap)
 
 -- an integer without a plus
 pub integer-by : (b : Bool) {ds : List ℕ} → Unsigned ds → Integer (sign-text false b ++ ds) (record { negative = b; digits = ds })

@@ -34,46 +34,46 @@ all-rules = record {
 module _ {r : Rules} where
   spelling-wider : {l : List ℕ} → SpellingBy r l → SpellingBy all-rules l
   spelling-wider (SpellingBy.letters d) = SpellingBy.letters d
-  spelling-wider (SpellingBy.percent f) = SpellingBy.percent refl
-  spelling-wider (SpellingBy.quoted f d) = SpellingBy.quoted refl d
+  spelling-wider (SpellingBy.percent f) = SpellingBy.percent tt
+  spelling-wider (SpellingBy.quoted f d) = SpellingBy.quoted tt d
 
   exponent-wider : {e : List ℕ} {w : Written} → ExponentBy r e w → ExponentBy all-rules e w
   exponent-wider ExponentBy.none = ExponentBy.none
-  exponent-wider (ExponentBy.integer f i) = ExponentBy.integer refl i
-  exponent-wider (ExponentBy.bracketed f b) = ExponentBy.bracketed refl b
-  exponent-wider (ExponentBy.stars f p) = ExponentBy.stars refl p
-  exponent-wider (ExponentBy.caret f p) = ExponentBy.caret refl p
+  exponent-wider (ExponentBy.integer f i) = ExponentBy.integer tt i
+  exponent-wider (ExponentBy.bracketed f b) = ExponentBy.bracketed tt b
+  exponent-wider (ExponentBy.stars f p) = ExponentBy.stars tt p
+  exponent-wider (ExponentBy.caret f p) = ExponentBy.caret tt p
 
   pad-wider : {a : List ℕ} → Pad r a → Pad all-rules a
   pad-wider Pad.none = Pad.none
-  pad-wider (Pad.space f p) = Pad.space refl (pad-wider p)
+  pad-wider (Pad.space f p) = Pad.space tt (pad-wider p)
 
   times-wider : {j : List ℕ} → TimesBy r j → TimesBy all-rules j
-  times-wider (TimesBy.space f p) = TimesBy.space refl (pad-wider p)
-  times-wider (TimesBy.star f p q) = TimesBy.star refl (pad-wider p) (pad-wider q)
-  times-wider (TimesBy.point f p q) = TimesBy.point refl (pad-wider p) (pad-wider q)
+  times-wider (TimesBy.space f p) = TimesBy.space tt (pad-wider p)
+  times-wider (TimesBy.star f p q) = TimesBy.star tt (pad-wider p) (pad-wider q)
+  times-wider (TimesBy.point f p q) = TimesBy.point tt (pad-wider p) (pad-wider q)
 
   over-wider : {j : List ℕ} → OverBy r j → OverBy all-rules j
-  over-wider (OverBy.slashed f p q) = OverBy.slashed refl (pad-wider p) (pad-wider q)
+  over-wider (OverBy.slashed f p q) = OverBy.slashed tt (pad-wider p) (pad-wider q)
 
   wrapped-wider : {e : List ℕ} {n : Numeral} → WrappedBy r e n → WrappedBy all-rules e n
   wrapped-wider (WrappedBy.bare i) = WrappedBy.bare i
-  wrapped-wider (WrappedBy.bracketed f i) = WrappedBy.bracketed refl i
+  wrapped-wider (WrappedBy.bracketed f i) = WrappedBy.bracketed tt i
 
   factor-wider : {x : List ℕ} {f : Factor} → FactorBy r x f → FactorBy all-rules x f
   factor-wider (FactorBy.stars w) = FactorBy.stars (wrapped-wider w)
-  factor-wider (FactorBy.caret f w) = FactorBy.caret refl (wrapped-wider w)
-  factor-wider (FactorBy.signed f i) = FactorBy.signed refl i
-  factor-wider (FactorBy.plain f p) = FactorBy.plain refl p
+  factor-wider (FactorBy.caret f w) = FactorBy.caret tt (wrapped-wider w)
+  factor-wider (FactorBy.signed f i) = FactorBy.signed tt i
+  factor-wider (FactorBy.plain f p) = FactorBy.plain tt p
 
   gap-wider : {g : List ℕ} → GapBy r g → GapBy all-rules g
   gap-wider GapBy.nothing = GapBy.nothing
-  gap-wider (GapBy.one f) = GapBy.one refl
-  gap-wider (GapBy.many f p) = GapBy.many refl p
+  gap-wider (GapBy.one f) = GapBy.one tt
+  gap-wider (GapBy.many f p) = GapBy.many tt p
 
 -- one slash
 slash-over : OverBy all-rules (slash ∷ [])
-slash-over = OverBy.slashed refl Pad.none Pad.none
+slash-over = OverBy.slashed tt Pad.none Pad.none
 
 -- one more item below a slash, at the end of a product
 more-last : {s t u : List ℕ} {ps qs : List Part} → G all-rules more s (slash ∷ t) ps → G all-rules item t u qs → G all-rules more s u (ps ++ turned-all qs)
@@ -109,4 +109,4 @@ pub label-wider : {r : Rules} {s : List ℕ} {f : Factor} {ps : List Part} → L
 label-wider LabelBy.empty = LabelBy.empty
 label-wider (LabelBy.plain u d) = LabelBy.plain u (G.plain (wider d))
 label-wider (LabelBy.under f d) = LabelBy.plain (unspaced refl) (G.plain (under-wider (wider d)))
-label-wider (LabelBy.factored l x g d) = LabelBy.factored refl (factor-wider x) (gap-wider g) (G.plain (wider d))
+label-wider (LabelBy.factored l x g d) = LabelBy.factored tt (factor-wider x) (gap-wider g) (G.plain (wider d))

@@ -37,7 +37,7 @@ returns : tie.Need-returns
 unfolding rows-compute style-in
 returns c =
     let w = notation-ruled _ (c .before .before .before .before .before .before .before .before .pre) in
-    let e = w .1 .styled in
+    let e = w .1 .listed .styled in
     record {
       is = e ∙ rw (
         in-set (λ (y : Style). y .quotes) styled e (c .before .before .before .before .before .before .before .has .ensures) tt,

@@ -15,7 +15,7 @@ use Rattle.label.specs.Choice.{pick}
 use Rattle.label.specs.Prefixes.{Prefix, prefix, prefixes, power-of}
 use Rattle.label.specs.Units.{BasePower, KnownUnit, bare, ten-to, units, unit-at, base-power, in-tens, prime-power}
 use Rattle.label.specs.Symbols.{Symbol, known, unknown}
-use Rattle.label.specs.Limits.{parts-of-one}
+use Rattle.label.specs.Limits.{parts-of-one, most-sixtieths, most-terms, largest-k}
 use Rattle.label.specs.Reading.{Term, term, Reading, base-in, prime-in, total, primes, refusal, reading-of, reading}
 use Rattle.label.specs.Writing.{writable}
 use Rattle.label.proofs.Computing.{answers-compute}
@@ -144,9 +144,9 @@ base-small b (unknown p l) = omega arith
 -- every term's exponent is at most 99
 data SmallExponents : List Term → Type 0 where
   none-left : SmallExponents []
-  one-more : {t : Term} {ts : List Term} → natAbs (t .exponent .0) ≤ 5_940 → SmallExponents ts → SmallExponents (t ∷ ts)
+  one-more : {t : Term} {ts : List Term} → natAbs (t .exponent .0) ≤ most-sixtieths → SmallExponents ts → SmallExponents (t ∷ ts)
 
-total-small : (f : Symbol → ℤ) (m : ℕ) → ((x : Symbol) → natAbs (f x) ≤ m) → {ts : List Term} → SmallExponents ts → natAbs (total f ts .0) ≤ length ts * (m * 5_940)
+total-small : (f : Symbol → ℤ) (m : ℕ) → ((x : Symbol) → natAbs (f x) ≤ m) → {ts : List Term} → SmallExponents ts → natAbs (total f ts .0) ≤ length ts * (m * most-sixtieths)
 unfolding total
 total-small f m h SmallExponents.none-left = omega arith
 total-small f m h (SmallExponents.one-more {t = t} {ts = ts} e w) =
@@ -161,9 +161,9 @@ ready-small s (t ∷ ts) (AllReady.also d ds) = SmallExponents.one-more (d .with
 
 -- at most 32 terms, each exponent small, k small
 record LimitedReading (r : Reading) : Type 0 where
-  pub terms-few : length (r .terms) ≤ 32
+  pub terms-few : length (r .terms) ≤ most-terms
   pub exponents-small : SmallExponents (r .terms)
-  pub k-little : natAbs (r .k .0) ≤ 99
+  pub k-little : natAbs (r .k .0) ≤ largest-k
 
 refusal-limited : (i : ℕ) → LimitedReading (refusal i)
 unfolding refusal
@@ -181,7 +181,7 @@ limited n s = go (answer-of n s)
     go (Answered.accepting v a) = rw (accepted-reading a) (kept-limited n s (v .k) (map (term n (length s)) (v .units)) (accepted-kept a))
 
 limited-base : (b : ℕ) (r : Reading) → LimitedReading r → natAbs (base-exponent b r) ≤ most-of-base
-limited-base b r l = omega (arith, total-small (base-in b) 9 (base-small b) (l .exponents-small), mul-le-mul-right (9 * 5_940) (l .terms-few))
+limited-base b r l = omega (arith, total-small (base-in b) 9 (base-small b) (l .exponents-small), mul-le-mul-right (9 * most-sixtieths) (l .terms-few))
 
 limited-prime : (p : ℕ) (r : Reading) → List·Memᴰ p primes → LimitedReading r → natAbs (prime-exponent p r) ≤ most-of-prime
 limited-prime p r m l =
@@ -189,9 +189,9 @@ limited-prime p r m l =
       arith,
       size-sum (in-tens p (r .k) *ℤ pos parts-of-one) (total (prime-in p) (r .terms) .0),
       size-product (in-tens p (r .k)) (pos parts-of-one),
-      in-tens-small p 99 (r .k) (l .k-little),
+      in-tens-small p largest-k (r .k) (l .k-little),
       total-small (prime-in p) 52 (prime-small p m) (l .exponents-small),
-      mul-le-mul-right (52 * 5_940) (l .terms-few),
+      mul-le-mul-right (52 * most-sixtieths) (l .terms-few),
     )
 
 pub exponents-bounded : ExponentsBounded

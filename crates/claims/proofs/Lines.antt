@@ -9,7 +9,7 @@ use lib.Dec.{leb, eqb}
 use lib.ListN.{length}
 use borrow.Author.Tests.{le-leb, lt-leb, eq-eqb, ne-eqb}
 use Rattle.label.specs.Bytes.{bytes, tab}
-use Rattle.label.specs.Lines.{parts, last-field, fields, decimal, answer-with, malformed, well-formed, answer}
+use Rattle.label.specs.Lines.{parts, last-field, fields, decimal, answer-with, malformed, well-formed, answer, most-line}
 use Rattle.claims.specs.Claims.{count-of, MalformedLines, OtherLines}
 
 -- a field more than tabs
@@ -29,13 +29,13 @@ and-false false = refl
 
 pub malformed-lines : MalformedLines
 unfolding answer well-formed malformed answer-with decimal bytes
-malformed-lines s (_⊎_.inl h) = rw (lt-leb (length s) 512 h)
+malformed-lines s (_⊎_.inl h) = rw (lt-leb (length s) most-line h)
 malformed-lines s (_⊎_.inr h) =
     let e : eqb (length (fields s)) 4 ≡ false = ne-eqb (length (fields s)) 4 (λ q. h (omega (arith, fields-count s []))) in
-    rw (e, and-false (leb (length s) 512))
+    rw (e, and-false (leb (length s) most-line))
 
 pub other-lines : OtherLines
 unfolding answer well-formed
 other-lines s h e =
     let q : length (fields s) ≡ 4 = omega (arith, fields-count s []) in
-    (q, rw (le-leb (length s) 512 h, eq-eqb (length (fields s)) 4 q))
+    (q, rw (le-leb (length s) most-line h, eq-eqb (length (fields s)) 4 q))

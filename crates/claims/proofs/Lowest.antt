@@ -10,12 +10,9 @@ use lib.Dec.{eqb, leb}
 use lib.IntN.{natAbs}
 use borrow.Author.Tests.{eqb-true, eq-eqb, ne-eqb, leb-true}
 use Rattle.label.specs.declared.Exponent.{Exponent}
-use Rattle.label.specs.Limits.{parts-of-one, signed, denominator-among, denominator-of, negative, lowest-terms}
+use Rattle.label.specs.Limits.{parts-of-one, signed, denominator-among, denominator-of, negative, lowest-terms, divisors}
 use Rattle.label.proofs.Basics.{false-true, all-below, at-below}
 use Rattle.claims.specs.Claims.{LowestTerms}
-
-abbrev divisors : List ℕ
-divisors = 1 ∷ 2 ∷ 3 ∷ 4 ∷ 5 ∷ 6 ∷ 10 ∷ 12 ∷ 15 ∷ 20 ∷ 30 ∷ 60 ∷ []
 
 -- THE TEST
 

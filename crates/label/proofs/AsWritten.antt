@@ -31,12 +31,12 @@ times-signed true c zero = rw (mul-zero c)
 times-signed true c (suc n) = refl
 times-signed false c n = refl
 
-pub whole-sixtieths : (q : Ratio) → in-sixtieths q ≡ true → sixtieths q * q .denominator ≡ 60 * q .numerator
-whole-sixtieths q e = omega (arith, div-add-mod' (60 * q .numerator) (q .denominator), eqb-true (60 * q .numerator % q .denominator) 0 e)
+pub whole-sixtieths : (q : Ratio) → in-sixtieths q ≡ true → sixtieths q * q .denominator ≡ parts-of-one * q .numerator
+whole-sixtieths q e = omega (arith, div-add-mod' (parts-of-one * q .numerator) (q .denominator), eqb-true (parts-of-one * q .numerator % q .denominator) 0 e)
 
 -- e sixtieths are the ratio q under its sign, turned or not
 abbrev SixtiethsOf : Exponent → Bool → Ratio → Type 0
-SixtiethsOf e turned q = e .0 *ℤ pos (q .denominator) ≡ pos 60 *ℤ signed (exclusive-or turned (q .negative)) (q .numerator)
+SixtiethsOf e turned q = e .0 *ℤ pos (q .denominator) ≡ pos parts-of-one *ℤ signed (exclusive-or turned (q .negative)) (q .numerator)
 
 exponent-written : (turned : Bool) (q : Ratio) (e : Exponent) → exponent-in turned q ≡ some e → SixtiethsOf e turned q
 unfolding exponent-in
@@ -49,7 +49,7 @@ exponent-written turned q e h = go (bounded q) refl h
         rw (← z) (
         signed-times (exclusive-or turned (q .negative)) (sixtieths q) (q .denominator)
         ∙ ap (signed (exclusive-or turned (q .negative))) (whole-sixtieths q whole)
-        ∙ sym (times-signed (exclusive-or turned (q .negative)) 60 (q .numerator)))
+        ∙ sym (times-signed (exclusive-or turned (q .negative)) parts-of-one (q .numerator)))
     go false p h = absurd (none-some h)
 
 values-written : (n b : ℕ) {ps : List Part} {us : List Placed} → Values ps us → AsWritten ps (map (term n b) us)

@@ -11,12 +11,13 @@ use borrow.Author.Tests.{leb-true}
 use Rattle.label.specs.Notations.{notation}
 use Rattle.label.specs.Reading.{Reading, reading, reading-of, refusal}
 use Rattle.label.specs.Writing.{Rewriting, refuse-rewriting, unless, sized, written-reading, rewriting}
+use Rattle.label.specs.Limits.{most-bytes}
 use Rattle.label.proofs.Refusals.{bounds}
 use Rattle.label.proofs.Readings.{Answered, answer-of, refused-reading, accepted-reading}
 
 pub record BoundedRewriting (x : Rewriting) : Type 0 where
   pub small : x .number ≤ 13
-  pub short : length (x .text) ≤ 255
+  pub short : length (x .text) ≤ most-bytes
   pub empty : 0 < x .number → x .text ≡ []
 
 refuse-bounded : (i : ℕ) → i ≤ 13 → BoundedRewriting (refuse-rewriting i)
@@ -27,15 +28,15 @@ unfolding unless
 unless-bounded true i x h p = p
 unless-bounded false i x h p = refuse-bounded i h
 
-text-bounded : (t : List ℕ) (b : Bool) → leb (length t) 255 ≡ b → BoundedRewriting (unless b 13 (record { number = 0; text = t }))
+text-bounded : (t : List ℕ) (b : Bool) → leb (length t) most-bytes ≡ b → BoundedRewriting (unless b 13 (record { number = 0; text = t }))
 unfolding unless
-text-bounded t true e = record { small = omega arith; short = leb-true (length t) 255 e; empty = λ h. absurd (omega arith) }
+text-bounded t true e = record { small = omega arith; short = leb-true (length t) most-bytes e; empty = λ h. absurd (omega arith) }
 text-bounded t false e = refuse-bounded 13 (omega arith)
 
 sized-bounded : (o : Option (List ℕ)) → BoundedRewriting (sized o)
 unfolding sized
 sized-bounded none = refuse-bounded 12 (omega arith)
-sized-bounded (some t) = text-bounded t (leb (length t) 255) refl
+sized-bounded (some t) = text-bounded t (leb (length t) most-bytes) refl
 
 refusal-number : (i : ℕ) → refusal i .number ≡ i
 unfolding refusal

@@ -14,7 +14,7 @@ use borrow.Author.Tests.{leb-true, le-leb}
 use Rattle.label.specs.declared.Tens.{Tens}
 use Rattle.label.specs.Choice.{pick}
 use Rattle.label.specs.Lexical.{Written, unwritten, whole, decimal, fraction, Factor, no-factor, ten-to, zeros, Part}
-use Rattle.label.specs.Limits.{number, short, Ratio, ratio, in-sixtieths, sixtieths, bounded, exponent-in, exponent-of, k-of}
+use Rattle.label.specs.Limits.{number, short, Ratio, ratio, in-sixtieths, sixtieths, bounded, exponent-in, exponent-of, k-of, parts-of-one, largest-k, most-sixtieths, largest-exponent}
 use Rattle.label.specs.Split.{Placed, Valued, valued-unit, valued-units, valued-with, valued}
 use Rattle.label.specs.Meaning.{_∈_, digit-runs, PowerKeeps, FactorKeeps}
 use Rattle.label.proofs.Basics.{none-some, and-left, and-right}
@@ -47,14 +47,14 @@ short-runs (decimal n es) h = rw (le-leb (length (n .digits)) 4 (h (n .digits) (
 short-runs (fraction n es) h = rw (le-leb (length (n .digits)) 4 (h (n .digits) (inl refl)), le-leb (length es) 4 (h es (inr (inl refl))))
 
 -- 99 is 5,940 sixtieths
-within-99 : (q : Ratio) → in-sixtieths q ≡ true → sixtieths q ≤ 5_940 → q .numerator ≤ 99 * q .denominator
-within-99 q e h = omega (arith, whole-sixtieths q e, mul-le-mul-right (q .denominator) h)
+numerator-within : (q : Ratio) → in-sixtieths q ≡ true → sixtieths q ≤ most-sixtieths → q .numerator ≤ largest-exponent * q .denominator
+numerator-within q e h = omega (arith, whole-sixtieths q e, mul-le-mul-right (q .denominator) h)
 
-within-5940 : (q : Ratio) → in-sixtieths q ≡ true → q .numerator ≤ 99 * q .denominator → sixtieths q ≤ 5_940
-within-5940 q e h = go (ℕ-discrete (q .denominator) 0) (decLt 5_940 (sixtieths q))
+sixtieths-within : (q : Ratio) → in-sixtieths q ≡ true → q .numerator ≤ largest-exponent * q .denominator → sixtieths q ≤ most-sixtieths
+sixtieths-within q e h = go (ℕ-discrete (q .denominator) 0) (decLt most-sixtieths (sixtieths q))
   where
-    go : Dec (q .denominator ≡ 0) → Dec (5_940 < sixtieths q) → sixtieths q ≤ 5_940
-    go (yes z) d = rw (z, div-zero (60 * q .numerator)) (omega arith)
+    go : Dec (q .denominator ≡ 0) → Dec (most-sixtieths < sixtieths q) → sixtieths q ≤ most-sixtieths
+    go (yes z) d = rw (z, div-zero (parts-of-one * q .numerator)) (omega arith)
     go (no z) (yes d) = absurd (omega (arith, whole-sixtieths q e, mul-le-mul-right (q .denominator) d))
     go (no z) (no d) = omega arith
 
@@ -70,21 +70,21 @@ power-keeps : (turned : Bool) (w : Written) → Given (exponent-of turned w) →
 unfolding exponent-of
 power-keeps turned w g =
     let e = given-bounded turned (ratio w) g in
-    let a = and-left (ratio w .short) (in-sixtieths (ratio w) && leb (sixtieths (ratio w)) 5_940) e in
-    let b = and-right (ratio w .short) (in-sixtieths (ratio w) && leb (sixtieths (ratio w)) 5_940) e in
-    let c = and-left (in-sixtieths (ratio w)) (leb (sixtieths (ratio w)) 5_940) b in
+    let a = and-left (ratio w .short) (in-sixtieths (ratio w) && leb (sixtieths (ratio w)) most-sixtieths) e in
+    let b = and-right (ratio w .short) (in-sixtieths (ratio w) && leb (sixtieths (ratio w)) most-sixtieths) e in
+    let c = and-left (in-sixtieths (ratio w)) (leb (sixtieths (ratio w)) most-sixtieths) b in
     record {
       runs = runs-short w a;
       sixtieths = c;
-      size = within-99 (ratio w) c (leb-true (sixtieths (ratio w)) 5_940 (and-right (in-sixtieths (ratio w)) (leb (sixtieths (ratio w)) 5_940) b));
+      size = numerator-within (ratio w) c (leb-true (sixtieths (ratio w)) most-sixtieths (and-right (in-sixtieths (ratio w)) (leb (sixtieths (ratio w)) most-sixtieths) b));
     }
 
 keeps-power : (turned : Bool) (w : Written) → PowerKeeps w → Given (exponent-of turned w)
 unfolding exponent-of
 keeps-power turned w k =
     bounded-given turned (ratio w)
-    (all-three (ratio w .short) (in-sixtieths (ratio w)) (leb (sixtieths (ratio w)) 5_940)
-    (short-runs w (k .runs)) (k .sixtieths) (le-leb (sixtieths (ratio w)) 5_940 (within-5940 (ratio w) (k .sixtieths) (k .size))))
+    (all-three (ratio w .short) (in-sixtieths (ratio w)) (leb (sixtieths (ratio w)) most-sixtieths)
+    (short-runs w (k .runs)) (k .sixtieths) (le-leb (sixtieths (ratio w)) most-sixtieths (sixtieths-within (ratio w) (k .sixtieths) (k .size))))
   where
     all-three : (a b c : Bool) → a ≡ true → b ≡ true → c ≡ true → (a && (b && c)) ≡ true
     all-three a b c p q r = rw (p, q, r)
@@ -95,17 +95,17 @@ factor-keeps : (f : Factor) → Given (k-of f) → FactorKeeps f
 unfolding k-of
 factor-keeps no-factor g = FactorKeeps.absent
 factor-keeps (ten-to n) g =
-    let e = pick-given (short (n .digits) && leb (number (n .digits)) 99) _ g in
+    let e = pick-given (short (n .digits) && leb (number (n .digits)) largest-k) _ g in
     FactorKeeps.integer
-    (leb-true (length (n .digits)) 4 (and-left (short (n .digits)) (leb (number (n .digits)) 99) e))
-    (leb-true (number (n .digits)) 99 (and-right (short (n .digits)) (leb (number (n .digits)) 99) e))
-factor-keeps (zeros k) g = FactorKeeps.plain (leb-true k 99 (pick-given (leb k 99) _ g))
+    (leb-true (length (n .digits)) 4 (and-left (short (n .digits)) (leb (number (n .digits)) largest-k) e))
+    (leb-true (number (n .digits)) largest-k (and-right (short (n .digits)) (leb (number (n .digits)) largest-k) e))
+factor-keeps (zeros k) g = FactorKeeps.plain (leb-true k largest-k (pick-given (leb k largest-k) _ g))
 
 keeps-factor : (f : Factor) → FactorKeeps f → Given (k-of f)
 unfolding k-of
 keeps-factor f FactorKeeps.absent = (_, refl)
-keeps-factor f (FactorKeeps.integer {n = n} a b) = rw (le-leb (length (n .digits)) 4 a, le-leb (number (n .digits)) 99 b) (_, refl)
-keeps-factor f (FactorKeeps.plain {k = k} a) = rw (le-leb k 99 a) (_, refl)
+keeps-factor f (FactorKeeps.integer {n = n} a b) = rw (le-leb (length (n .digits)) 4 a, le-leb (number (n .digits)) largest-k b) (_, refl)
+keeps-factor f (FactorKeeps.plain {k = k} a) = rw (le-leb k largest-k a) (_, refl)
 
 -- LABELS
 

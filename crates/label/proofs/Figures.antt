@@ -13,7 +13,7 @@ use borrow.Author.Tests.{eqb-true, leb-true, leb-false, le-leb}
 use Rattle.label.specs.declared.Exponent.{Exponent}
 use Rattle.label.specs.Bytes.{digit, nonzero, all}
 use Rattle.label.specs.Lexical.{Unsigned}
-use Rattle.label.specs.Limits.{number-from, number, signed, sixtieths, exponent-in, negative, denominator-among, denominator-of, lowest-terms}
+use Rattle.label.specs.Limits.{number-from, number, signed, sixtieths, exponent-in, negative, denominator-among, denominator-of, lowest-terms, parts-of-one, most-sixtieths, divisors}
 use Rattle.label.specs.Writing.{figures-before, figures}
 use Rattle.label.proofs.Basics.{both, T-and}
 
@@ -98,24 +98,24 @@ size-signed false n = refl
 
 -- LOWEST TERMS
 
-among-whole : (e : ℕ) (qs : List ℕ) → e * denominator-among e qs % 60 ≡ 0
+among-whole : (e : ℕ) (qs : List ℕ) → e * denominator-among e qs % parts-of-one ≡ 0
 unfolding denominator-among
-among-whole e [] = mul-mod-left e 60
-among-whole e (q ∷ qs) = go (eqb (e * q % 60) 0) refl (among-whole e qs)
+among-whole e [] = mul-mod-left e parts-of-one
+among-whole e (q ∷ qs) = go (eqb (e * q % parts-of-one) 0) refl (among-whole e qs)
   where
-    go : (b : Bool) → eqb (e * q % 60) 0 ≡ b → e * denominator-among e qs % 60 ≡ 0
-        → e * (elim b as (λ (z : Bool). ℕ) [ true ↦ q | false ↦ denominator-among e qs ]) % 60 ≡ 0
-    go true p ih = eqb-true (e * q % 60) 0 p
+    go : (b : Bool) → eqb (e * q % parts-of-one) 0 ≡ b → e * denominator-among e qs % parts-of-one ≡ 0
+        → e * (elim b as (λ (z : Bool). ℕ) [ true ↦ q | false ↦ denominator-among e qs ]) % parts-of-one ≡ 0
+    go true p ih = eqb-true (e * q % parts-of-one) 0 p
     go false p ih = ih
 
 -- from 1 to 60
 sixty : ℕ → Bool
-sixty q = leb 1 q && leb q 60
+sixty q = leb 1 q && leb q parts-of-one
 
 among-range : (e : ℕ) (qs : List ℕ) → T (all sixty qs) → T (sixty (denominator-among e qs))
 unfolding denominator-among all sixty
 among-range e [] t = tt
-among-range e (q ∷ qs) t = let w = both (sixty q) (all sixty qs) t in go (eqb (e * q % 60) 0) (w .0) (among-range e qs (w .1))
+among-range e (q ∷ qs) t = let w = both (sixty q) (all sixty qs) t in go (eqb (e * q % parts-of-one) 0) (w .0) (among-range e qs (w .1))
   where
     go : (b : Bool) → T (sixty q) → T (sixty (denominator-among e qs)) → T (sixty (elim b as (λ (z : Bool). ℕ) [ true ↦ q | false ↦ denominator-among e qs ]))
     go true t ih = t
@@ -123,30 +123,30 @@ among-range e (q ∷ qs) t = let w = both (sixty q) (all sixty qs) t in go (eqb 
 
 -- e sixtieths as p/q
 pub record Lowered (e p q : ℕ) : Type 0 where
-  pub equal : p * 60 ≡ e * q
+  pub equal : p * parts-of-one ≡ e * q
   pub positive : 1 ≤ q
-  pub within : q ≤ 60
+  pub within : q ≤ parts-of-one
 
 pub lowered : (e : Exponent) → Lowered (natAbs (e .0)) (natAbs (lowest-terms e .numerator)) (lowest-terms e .denominator)
 unfolding lowest-terms denominator-of sixty all
 lowered e =
-    let d = denominator-among (natAbs (e .0)) (1 ∷ 2 ∷ 3 ∷ 4 ∷ 5 ∷ 6 ∷ 10 ∷ 12 ∷ 15 ∷ 20 ∷ 30 ∷ 60 ∷ []) in
-    let t = among-range (natAbs (e .0)) (1 ∷ 2 ∷ 3 ∷ 4 ∷ 5 ∷ 6 ∷ 10 ∷ 12 ∷ 15 ∷ 20 ∷ 30 ∷ 60 ∷ []) tt in
-    let w = both (leb 1 d) (leb d 60) t in
-    rw (size-signed (negative (e .0)) (natAbs (e .0) * d / 60)) (record {
-      equal = omega (arith, div-add-mod' (natAbs (e .0) * d) 60, among-whole (natAbs (e .0)) (1 ∷ 2 ∷ 3 ∷ 4 ∷ 5 ∷ 6 ∷ 10 ∷ 12 ∷ 15 ∷ 20 ∷ 30 ∷ 60 ∷ []));
+    let d = denominator-among (natAbs (e .0)) divisors in
+    let t = among-range (natAbs (e .0)) divisors tt in
+    let w = both (leb 1 d) (leb d parts-of-one) t in
+    rw (size-signed (negative (e .0)) (natAbs (e .0) * d / parts-of-one)) (record {
+      equal = omega (arith, div-add-mod' (natAbs (e .0) * d) parts-of-one, among-whole (natAbs (e .0)) divisors);
       positive = leb→le 1 d (w .0);
-      within = leb→le d 60 (w .1);
+      within = leb→le d parts-of-one (w .1);
     })
 
 -- READING BACK
 
 -- p/q is e sixtieths
-pub ratio-back : (b : Bool) (e p q : ℕ) → Lowered e p q → e ≤ 5_940
+pub ratio-back : (b : Bool) (e p q : ℕ) → Lowered e p q → e ≤ most-sixtieths
     → exponent-in false (record { negative = b; numerator = p; denominator = q; short = true }) ≡ some (record { 0 = signed b e })
 unfolding exponent-in
 ratio-back b e p q w h =
-    let c : 60 * p ≡ e * q = omega (arith, w .equal) in
-    let m : 60 * p % q ≡ 0 = rw c (mul-mod-left e q) in
-    let d : 60 * p / q ≡ e = rw c (mul-div-cancel e (w .positive)) in
-    rw (m, d, le-leb e 5_940 h)
+    let c : parts-of-one * p ≡ e * q = omega (arith, w .equal) in
+    let m : parts-of-one * p % q ≡ 0 = rw c (mul-mod-left e q) in
+    let d : parts-of-one * p / q ≡ e = rw c (mul-div-cancel e (w .positive)) in
+    rw (m, d, le-leb e most-sixtieths h)

@@ -20,7 +20,7 @@ use Rattle.label.specs.Choice.{pick}
 use Rattle.label.specs.Notations.{member, fractionless, notation}
 use Rattle.label.specs.Symbols.{Symbol, unknown, symbol}
 use Rattle.label.specs.Lexical.{Written, unwritten, whole, Part}
-use Rattle.label.specs.Limits.{signed, exclusive-or, Ratio, ratio, sixtieths, bounded, exponent-in, exponent-of, denominator-among, denominator-of, lowest-terms}
+use Rattle.label.specs.Limits.{signed, exclusive-or, Ratio, ratio, sixtieths, bounded, exponent-in, exponent-of, denominator-among, denominator-of, lowest-terms, most-bytes, parts-of-one, divisors}
 use Rattle.label.specs.Split.{Placed, Valued}
 use Rattle.label.specs.Reading.{term, Reading, refusal, reading-of, reading}
 use Rattle.label.specs.Letters.{prefix-letters}
@@ -170,21 +170,21 @@ module _ {n : ℕ} {y : Style} (o : Suited n y) where
   spelling-formed (SpellingBy.quoted f q) = quoted-formed (SpellingBy.quoted f q) (quoted-as n q)
 
 -- a power that is whole has the denominator 1
-among-one : (a : ℕ) (qs : List ℕ) → a * 1 % 60 ≡ 0 → denominator-among a (1 ∷ qs) ≡ 1
+among-one : (a : ℕ) (qs : List ℕ) → a * 1 % parts-of-one ≡ 0 → denominator-among a (1 ∷ qs) ≡ 1
 unfolding denominator-among
-among-one a qs e = rw (eq-eqb (a * 1 % 60) 0 e, denominator-among)
+among-one a qs e = rw (eq-eqb (a * 1 % parts-of-one) 0 e, denominator-among)
 
 whole-lowest : (b : Bool) (q : Ratio) (e : Exponent) → q .denominator ≡ 1 → exponent-in b q ≡ some e → lowest-terms e .denominator ≡ 1
 unfolding exponent-in lowest-terms denominator-of
 whole-lowest b q e d h = go (bounded q) h
   where
-    go : (x : Bool) → pick x (some (record { 0 = signed (exclusive-or b (q .negative)) (sixtieths q) })) none ≡ some e → denominator-among (natAbs (e .0)) (1 ∷ 2 ∷ 3 ∷ 4 ∷ 5 ∷ 6 ∷ 10 ∷ 12 ∷ 15 ∷ 20 ∷ 30 ∷ 60 ∷ []) ≡ 1
+    go : (x : Bool) → pick x (some (record { 0 = signed (exclusive-or b (q .negative)) (sixtieths q) })) none ≡ some e → denominator-among (natAbs (e .0)) divisors ≡ 1
     go false h = absurd (none-some h)
     go true h =
         let w : record { 0 = signed (exclusive-or b (q .negative)) (sixtieths q) } ≡ e = cc in
-        let z : natAbs (e .0) ≡ 60 * q .numerator = rw (← w, size-signed (exclusive-or b (q .negative)) (sixtieths q), d) (div-one (60 * q .numerator)) in
-        let v : natAbs (e .0) * 1 ≡ 60 * q .numerator = omega arith in
-        among-one (natAbs (e .0)) _ (rw v (mul-mod-right 60 (q .numerator)))
+        let z : natAbs (e .0) ≡ parts-of-one * q .numerator = rw (← w, size-signed (exclusive-or b (q .negative)) (sixtieths q), d) (div-one (parts-of-one * q .numerator)) in
+        let v : natAbs (e .0) * 1 ≡ parts-of-one * q .numerator = omega arith in
+        among-one (natAbs (e .0)) _ (rw v (mul-mod-right parts-of-one (q .numerator)))
 
 -- the rules of a notation without fractions
 no-powers : (a b c : Bool) → (a || (b || c)) ≡ false → (a ≡ false) × (b ≡ false) × (c ≡ false)
@@ -263,9 +263,9 @@ module _ (n : ℕ) (s : List ℕ) (m : ℕ) where
   unfolding rewriting unless sized
   refused-form z e h = rw (eq-eqb (reading n s .number) 0 z, e, h)
 
-  refused-long : (t : List ℕ) → reading n s .number ≡ 0 → notation m ≡ true → written-reading m s (reading n s) ≡ some t → 255 < length t → rewriting n s m ≡ refuse-rewriting 13
+  refused-long : (t : List ℕ) → reading n s .number ≡ 0 → notation m ≡ true → written-reading m s (reading n s) ≡ some t → most-bytes < length t → rewriting n s m ≡ refuse-rewriting 13
   unfolding rewriting unless sized
-  refused-long t z e h l = rw (eq-eqb (reading n s .number) 0 z, e, h, lt-leb (length t) 255 l)
+  refused-long t z e h l = rw (eq-eqb (reading n s .number) 0 z, e, h, lt-leb (length t) most-bytes l)
 
   -- 12 is given where no text is written: "a term or exponent has no form in the target"
   formless-none : reading n s .number ≡ 0 → notation m ≡ true → Formless m (map (writable s) (reading n s .terms)) → written-reading m s (reading n s) ≡ none
@@ -294,17 +294,17 @@ module _ (n : ℕ) (s : List ℕ) (m : ℕ) where
   unfolding rewriting unless sized
   answered-refuses i l h = go (eqb (reading n s .number) 0) (notation m) (written-reading m s (reading n s)) refl refl refl h
     where
-      last : (t : List ℕ) (b : Bool) → leb (length t) 255 ≡ b → reading n s .number ≡ 0 → notation m ≡ true → written-reading m s (reading n s) ≡ some t
+      last : (t : List ℕ) (b : Bool) → leb (length t) most-bytes ≡ b → reading n s .number ≡ 0 → notation m ≡ true → written-reading m s (reading n s) ≡ some t
           → unless b 13 (record { number = 0; text = t }) .number ≡ i → Refuses n s m i
       last t true f p q o h = absurd (omega arith)
-      last t false f p q o h = rw (← h) (Refuses.long p q o (leb-false (length t) 255 f))
+      last t false f p q o h = rw (← h) (Refuses.long p q o (leb-false (length t) most-bytes f))
 
       go : (a b : Bool) (o : Option (List ℕ)) → eqb (reading n s .number) 0 ≡ a → notation m ≡ b → written-reading m s (reading n s) ≡ o
           → unless a (reading n s .number) (unless b 1 (sized o)) .number ≡ i → Refuses n s m i
       go false b o p q e h = Refuses.source (number-refused n s i l .0 h)
       go true false o p q e h = rw (← h) (Refuses.target (eqb-true (reading n s .number) 0 p) q)
       go true true none p q e h = rw (← h) (Refuses.formless (eqb-true (reading n s .number) 0 p) q (none-formless (eqb-true (reading n s .number) 0 p) q e))
-      go true true (some t) p q e h = last t (leb (length t) 255) refl (eqb-true (reading n s .number) 0 p) q e h
+      go true true (some t) p q e h = last t (leb (length t) most-bytes) refl (eqb-true (reading n s .number) 0 p) q e h
 
   -- Rewriting's number is that of the refusal that is due.
   pub refusals-are-due : (i : ℕ) → 1 ≤ i → (rewriting n s m .number ≡ i) ↔ Refuses n s m i

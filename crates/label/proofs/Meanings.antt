@@ -12,11 +12,12 @@ use Rattle.label.specs.declared.Exponent.{Exponent}
 use Rattle.label.specs.declared.Tens.{Tens}
 use Rattle.label.specs.Notations.{notation}
 use Rattle.label.specs.Prefixes.{power-of}
-use Rattle.label.specs.Units.{unit-at, multiplicity, in-tens}
+use Rattle.label.specs.Units.{unit-at, multiplicity, in-tens, base-count}
 use Rattle.label.specs.Symbols.{Symbol, known, unknown}
 use Rattle.label.specs.Split.{one, Refused}
 use Rattle.label.specs.Reading.{Term, every, is-known, is-lawful, is-recommended, base-in, prime-in, total, nothing, all-bases, dimensions-of, scale-of, Reading, refusal, reading-of, reading}
 use Rattle.label.specs.Meaning.{_∈_, Named, Prefixable, unrecommended, Sum, BaseIn, dimension, prime-in-ten, PrimeIn, scale-exponent, Empty}
+use Rattle.label.specs.Limits.{parts-of-one}
 use Rattle.label.proofs.Basics.{false-true, and-left, and-right}
 use Rattle.label.proofs.Listing.{up-to-length, up-to-map}
 use Rattle.label.proofs.Tables.{lawful-prefixable, prefixable-lawful, recommended-unnamed, unnamed-recommended, row-power, row-product}
@@ -146,18 +147,18 @@ unfolding base-in
 base-has b (known p u) = BaseIn.by-size (row-power b u)
 base-has b (unknown p l) = BaseIn.nowhere
 
-dimensions-length : (ts : List Term) → length (dimensions-of ts) ≡ 32
+dimensions-length : (ts : List Term) → length (dimensions-of ts) ≡ base-count
 unfolding dimensions-of
-dimensions-length ts = length-map all-bases (λ (b : ℕ). total (base-in b) ts) ∙ up-to-length 32 []
+dimensions-length ts = length-map all-bases (λ (b : ℕ). total (base-in b) ts) ∙ up-to-length base-count []
 
-dimension-at : (b : ℕ) → b < 32 → (r : Reading) → r .dimensions ≡ dimensions-of (r .terms) → dimension b r ≡ total (base-in b) (r .terms) .0
+dimension-at : (b : ℕ) → b < base-count → (r : Reading) → r .dimensions ≡ dimensions-of (r .terms) → dimension b r ≡ total (base-in b) (r .terms) .0
 unfolding dimensions-of
 dimension-at b h r e =
     ap (λ (es : List Exponent). getD es b nothing .0) e
-    ∙ ap (λ (x : Exponent). x .0) (up-to-map 32 (λ (b : ℕ). total (base-in b) (r .terms)) nothing b h)
+    ∙ ap (λ (x : Exponent). x .0) (up-to-map base-count (λ (b : ℕ). total (base-in b) (r .terms)) nothing b h)
 
 pub dimensions-sum : (n : ℕ) (s : List ℕ) → reading n s .number ≡ 0
-    → (length (reading n s .dimensions) ≡ 32) × ((b : ℕ) → b < 32 → Sum (BaseIn b) (reading n s .terms) (dimension b (reading n s)))
+    → (length (reading n s .dimensions) ≡ base-count) × ((b : ℕ) → b < base-count → Sum (BaseIn b) (reading n s .terms) (dimension b (reading n s)))
 dimensions-sum n s q =
     let f = fields n s q in (
       ap length (f .dimensions) ∙ dimensions-length (reading n s .terms),
@@ -183,20 +184,20 @@ prime-has p h (known x u) = rw (in-tens-is p h (power-of x), in-tens-is p h (uni
 prime-has p h (unknown x l) = rw (in-tens-is p h (power-of x)) PrimeIn.prefix-only
 
 scale-of-at : (k : Tens) (ts : List Term) (r : Reading) → r .scale ≡ scale-of k ts → (p : ℕ) → p ∈ four-primes
-    → scale-exponent p r ≡ in-tens p k *ℤ pos 60 +ℤ total (prime-in p) ts .0
+    → scale-exponent p r ≡ in-tens p k *ℤ pos parts-of-one +ℤ total (prime-in p) ts .0
 unfolding scale-of
 scale-of-at k ts r q p h =
-    at-primes (λ p. scale-exponent p r ≡ in-tens p k *ℤ pos 60 +ℤ total (prime-in p) ts .0) (rw q) (rw q) (rw q) (rw q) p h
+    at-primes (λ p. scale-exponent p r ≡ in-tens p k *ℤ pos parts-of-one +ℤ total (prime-in p) ts .0) (rw q) (rw q) (rw q) (rw q) p h
 
 pub scale-sum : (n : ℕ) (s : List ℕ) → reading n s .number ≡ 0 → (p : ℕ) → p ∈ 2 ∷ 3 ∷ 5 ∷ 487 ∷ []
-    → (z : ℤ) × Sum (PrimeIn p) (reading n s .terms) z × (scale-exponent p (reading n s) ≡ pos 60 *ℤ prime-in-ten p (reading n s .k .0) +ℤ z)
+    → (z : ℤ) × Sum (PrimeIn p) (reading n s .terms) z × (scale-exponent p (reading n s) ≡ pos parts-of-one *ℤ prime-in-ten p (reading n s .k .0) +ℤ z)
 scale-sum n s q p h =
     let z = total (prime-in p) (reading n s .terms) .0 in (
       z,
       total-sum (prime-in p) (PrimeIn p) (prime-has p h) (reading n s .terms),
       scale-of-at (reading n s .k) (reading n s .terms) (reading n s) (fields n s q .scale) p h
-          ∙ ap (λ (y : ℤ). y *ℤ pos 60 +ℤ z) (in-tens-is p h (reading n s .k))
-          ∙ ap (λ (y : ℤ). y +ℤ z) (*ℤ-comm (prime-in-ten p (reading n s .k .0)) (pos 60)),
+          ∙ ap (λ (y : ℤ). y *ℤ pos parts-of-one +ℤ z) (in-tens-is p h (reading n s .k))
+          ∙ ap (λ (y : ℤ). y +ℤ z) (*ℤ-comm (prime-in-ten p (reading n s .k .0)) (pos parts-of-one)),
     )
 
 -- REFUSED READINGS

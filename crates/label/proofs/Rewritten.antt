@@ -18,7 +18,7 @@ use Rattle.label.specs.Symbols.{Symbol, known, unknown, symbol}
 use Rattle.label.specs.Units.{unit-at}
 use Rattle.label.specs.Ogip.{Unspaced, unspaced}
 use Rattle.label.specs.Lexical.{Factor, no-factor, ten-to, Part, part, item, more, quotient}
-use Rattle.label.specs.Limits.{signed, negative, number, exponent-of, k-of}
+use Rattle.label.specs.Limits.{signed, negative, number, exponent-of, k-of, most-bytes, most-terms, largest-k}
 use Rattle.label.specs.Split.{Placed, valued-unit, valued-units, valued-with, valued}
 use Rattle.label.specs.Reading.{term, Reading, reading-of, accept, unless, check-counts, check-values, check-grammar, checked, answered, reading}
 use Rattle.label.specs.Agreement.{Raised, raised-term}
@@ -168,11 +168,11 @@ sign-quiet a true = tt
 sign-quiet true false = tt
 sign-quiet false false = tt
 
-factor-value : (z : ℤ) (ds : List ℕ) → Digited (natAbs z) ds → natAbs z ≤ 99 → k-of (ten-to (record { negative = negative z; digits = ds })) ≡ some (record { 0 = z })
+factor-value : (z : ℤ) (ds : List ℕ) → Digited (natAbs z) ds → natAbs z ≤ largest-k → k-of (ten-to (record { negative = negative z; digits = ds })) ≡ some (record { 0 = z })
 unfolding k-of
-factor-value z ds d h = rw (d .short, d .value, le-leb (natAbs z) 99 h, signed-size z)
+factor-value z ds d h = rw (d .short, d .value, le-leb (natAbs z) largest-k h, signed-size z)
 
-factored-label : {y : Style} {m : ℕ} {r : Rules} {w : Writable} {ws : List Writable} {s t : List ℕ} (k : Tens) → Suits y r → 1 ≤ natAbs (k .0) → natAbs (k .0) ≤ 99 → UnitRead y m r w s → MoreRead y m r ws t
+factored-label : {y : Style} {m : ℕ} {r : Rules} {w : Writable} {ws : List Writable} {s t : List ℕ} (k : Tens) → Suits y r → 1 ≤ natAbs (k .0) → natAbs (k .0) ≤ largest-k → UnitRead y m r w s → MoreRead y m r ws t
     → LabelReadBack y m r k (w ∷ ws) (((y .ten ++ (sign-text (y .signed) (negative (k .0)) ++ figures (natAbs (k .0)))) ++ y .gap) ++ (s ++ t))
 factored-label {y} {s = s} {t = t} k v low high u x = record {
   factor = ten-to (record { negative = negative (k .0); digits = figures (natAbs (k .0)) });
@@ -197,7 +197,7 @@ no-size (negsuc n) e = absurd (omega arith)
 no-tens : (k : Tens) → natAbs (k .0) ≡ 0 → k ≡ record { 0 = pos 0 }
 no-tens k e = ap {B = Tens} (λ (x : ℤ). record { 0 = x }) (no-size (k .0) e)
 
-pub label-read : {y : Style} {r : Rules} {m : ℕ} → Suits y r → RuledBy m r → (k : Tens) {ws : List Writable} → AllReady ws → natAbs (k .0) ≤ 99 → (ws ≡ [] → k ≡ record { 0 = pos 0 })
+pub label-read : {y : Style} {r : Rules} {m : ℕ} → Suits y r → RuledBy m r → (k : Tens) {ws : List Writable} → AllReady ws → natAbs (k .0) ≤ largest-k → (ws ≡ [] → k ≡ record { 0 = pos 0 })
     → (t : List ℕ) → label-text y m k ws ≡ some t → LabelReadBack y m r k ws t
 unfolding label-text all factor-text k-of
 label-read v o k AllReady.done high z t h =
@@ -276,19 +276,19 @@ units-of {y} {m} (UnitsRead.next {p = p} {w = w} s e h a) (AllLocated.some d ds)
       again = Alike.alike (term-again y m w d s h) refl (u .again);
     }
 
-label-checked : {y : Style} {m : ℕ} {r : Rules} {k : Tens} {ws : List Writable} {t : List ℕ} → RuledBy m r → (d : LabelReadBack y m r k ws t) → (u : Units y m t (d .parts) ws) → length t ≤ 255 → length ws ≤ 32
+label-checked : {y : Style} {m : ℕ} {r : Rules} {k : Tens} {ws : List Writable} {t : List ℕ} → RuledBy m r → (d : LabelReadBack y m r k ws t) → (u : Units y m t (d .parts) ws) → length t ≤ most-bytes → length ws ≤ most-terms
     → checked m t ≡ accept (record { k = k; units = u .units })
 unfolding checked unless check-grammar check-values check-counts valued valued-with
 label-checked {m} {t = t} o d u h g =
     rw (
       o .listed .is-notation,
-      le-leb (length t) 255 h,
+      le-leb (length t) most-bytes h,
       T→true (all admitted t) (d .fine .bytes),
       derived-parsed (o .derives (d .derived)),
       d .power,
       u .valued,
       fine-deepest (d .fine),
-      le-leb (length (u .units)) 32 (omega (arith, u .count)),
+      le-leb (length (u .units)) most-terms (omega (arith, u .count)),
     )
 
 -- what reading the text gives
@@ -298,7 +298,7 @@ pub record TextReadBack (m : ℕ) (k : Tens) (ws : List Writable) (t : List ℕ)
   pub terms : map raised-term (a .terms) ≡ map raised ws
   pub again : written-reading m t a ≡ written m k ws
 
-label-back : {y : Style} {m : ℕ} {r : Rules} {k : Tens} {ws : List Writable} {t : List ℕ} → style-of m ≡ some y → RuledBy m r → LabelReadBack y m r k ws t → length t ≤ 255 → length ws ≤ 32 → TextReadBack m k ws t (reading m t)
+label-back : {y : Style} {m : ℕ} {r : Rules} {k : Tens} {ws : List Writable} {t : List ℕ} → style-of m ≡ some y → RuledBy m r → LabelReadBack y m r k ws t → length t ≤ most-bytes → length ws ≤ most-terms → TextReadBack m k ws t (reading m t)
 unfolding reading answered reading-of written written-by
 label-back {k = k} {t = t} e o d h g =
     let u = units-of (d .answers) (label-located (d .derived)) in
@@ -306,8 +306,8 @@ label-back {k = k} {t = t} e o d h g =
 
 -- WHAT IS WRITTEN IS READ BACK
 
-pub written-back : (m : ℕ) (k : Tens) {ws : List Writable} → AllReady ws → natAbs (k .0) ≤ 99 → (ws ≡ [] → k ≡ record { 0 = pos 0 }) → length ws ≤ 32
-    → (t : List ℕ) → length t ≤ 255 → written m k ws ≡ some t → TextReadBack m k ws t (reading m t)
+pub written-back : (m : ℕ) (k : Tens) {ws : List Writable} → AllReady ws → natAbs (k .0) ≤ largest-k → (ws ≡ [] → k ≡ record { 0 = pos 0 }) → length ws ≤ most-terms
+    → (t : List ℕ) → length t ≤ most-bytes → written m k ws ≡ some t → TextReadBack m k ws t (reading m t)
 unfolding written written-by
 written-back m k {ws} i high z few t short h = go (style-of m) refl h
   where

@@ -18,7 +18,7 @@ use Rattle.label.specs.Choice.{pick}
 use Rattle.label.specs.Notations.{notation}
 use Rattle.label.specs.Lexical.{Numeral, Written, whole, Factor, no-factor, ten-to, zeros, Part, turned-all, Kind, item, more, product, quotient, Unsigned, Signed, Integer, Decimal, Bracketed, Power}
 use Rattle.label.specs.Symbols.{symbol}
-use Rattle.label.specs.Limits.{number-from, number, signed, exclusive-or, Ratio, ratio, in-sixtieths, sixtieths, bounded, exponent-in, exponent-of, short, tens, k-of}
+use Rattle.label.specs.Limits.{number-from, number, signed, exclusive-or, Ratio, ratio, in-sixtieths, sixtieths, bounded, exponent-in, exponent-of, short, tens, k-of, most-bytes, most-terms, parts-of-one, largest-k, most-sixtieths}
 use Rattle.label.specs.Split.{Placed, Valued, valued-units, valued-with, valued, Condition}
 use Rattle.label.specs.Reading.{Term, term, Reading, refusal, reading-of, reading}
 use Rattle.label.specs.Parse.{inside}
@@ -85,11 +85,11 @@ exponent-nonzero (ExponentBy.caret f p) = power-nonzero p
 
 -- EXPONENTS
 
-quotient-low : (n d : ℕ) → 1 ≤ n → 60 * n % d ≡ 0 → 1 ≤ 60 * n / d
-quotient-low n d h e = go (60 * n / d) refl
+quotient-low : (n d : ℕ) → 1 ≤ n → parts-of-one * n % d ≡ 0 → 1 ≤ parts-of-one * n / d
+quotient-low n d h e = go (parts-of-one * n / d) refl
   where
-    go : (q : ℕ) → 60 * n / d ≡ q → 1 ≤ q
-    go zero f = absurd (omega (arith, div-add-mod' (60 * n) d, ap (λ (x : ℕ). x * d) f))
+    go : (q : ℕ) → parts-of-one * n / d ≡ q → 1 ≤ q
+    go zero f = absurd (omega (arith, div-add-mod' (parts-of-one * n) d, ap (λ (x : ℕ). x * d) f))
     go (suc q) f = omega arith
 
 ratio-within : (b : Bool) (q : Ratio) (e : Exponent) → 1 ≤ q .numerator → exponent-in b q ≡ some e → WithinBounds e
@@ -99,10 +99,10 @@ ratio-within b q e h g = go (bounded q) refl g
     go : (x : Bool) → bounded q ≡ x → pick x (some (record { 0 = signed (exclusive-or b (q .negative)) (sixtieths q) })) none ≡ some e → WithinBounds e
     go false p g = absurd (none-some g)
     go true p g =
-        let a = and-right (q .short) (in-sixtieths q && leb (sixtieths q) 5_940) p in
+        let a = and-right (q .short) (in-sixtieths q && leb (sixtieths q) most-sixtieths) p in
         let w : record { 0 = signed (exclusive-or b (q .negative)) (sixtieths q) } ≡ e = cc in
-        let m = eqb-true (60 * q .numerator % q .denominator) 0 (and-left (in-sixtieths q) (leb (sixtieths q) 5_940) a) in
-        let l = leb-true (sixtieths q) 5_940 (and-right (in-sixtieths q) (leb (sixtieths q) 5_940) a) in
+        let m = eqb-true (parts-of-one * q .numerator % q .denominator) 0 (and-left (in-sixtieths q) (leb (sixtieths q) most-sixtieths) a) in
+        let l = leb-true (sixtieths q) most-sixtieths (and-right (in-sixtieths q) (leb (sixtieths q) most-sixtieths) a) in
         let z = size-signed (exclusive-or b (q .negative)) (sixtieths q) in
         rw (← w) (record { low = rw z (quotient-low (q .numerator) (q .denominator) h m); high = rw z l })
 
@@ -132,16 +132,16 @@ module _ {n : ℕ} {r : Rules} (o : RuledBy n r) (s : List ℕ) where
 
 -- K
 
-tens-within : (a b : Bool) (n : ℕ) (k : Tens) → tens a b n ≡ some k → natAbs (k .0) ≤ 99
-tens-within a b n k h = go (a && leb n 99) refl h
+tens-within : (a b : Bool) (n : ℕ) (k : Tens) → tens a b n ≡ some k → natAbs (k .0) ≤ largest-k
+tens-within a b n k h = go (a && leb n largest-k) refl h
   where
-    go : (x : Bool) → (a && leb n 99) ≡ x → pick x (some (record { 0 = signed b n })) none ≡ some k → natAbs (k .0) ≤ 99
+    go : (x : Bool) → (a && leb n largest-k) ≡ x → pick x (some (record { 0 = signed b n })) none ≡ some k → natAbs (k .0) ≤ largest-k
     go true p g =
         let w : record { 0 = signed b n } ≡ k = cc in
-        rw (← w, size-signed b n) (leb-true n 99 (and-right a (leb n 99) p))
+        rw (← w, size-signed b n) (leb-true n largest-k (and-right a (leb n largest-k) p))
     go false p g = absurd (none-some g)
 
-k-within : (f : Factor) (k : Tens) → k-of f ≡ some k → natAbs (k .0) ≤ 99
+k-within : (f : Factor) (k : Tens) → k-of f ≡ some k → natAbs (k .0) ≤ largest-k
 unfolding k-of
 k-within no-factor k h = let w : record { 0 = pos 0 } ≡ k = cc in rw (← w) (omega arith)
 k-within (ten-to n) k h = tens-within (short (n .digits)) (n .negative) (number (n .digits)) k h
@@ -208,9 +208,9 @@ valued-k f ps v h = go (k-of f) (valued-units ps) refl h
 -- an accepted label's values keep the limits
 pub record Kept (k : Tens) (ws : List Writable) : Type 0 where
   pub ready : AllReady ws
-  pub high : natAbs (k .0) ≤ 99
+  pub high : natAbs (k .0) ≤ largest-k
   pub headed : ws ≡ [] → k ≡ record { 0 = pos 0 }
-  pub few : length ws ≤ 32
+  pub few : length ws ≤ most-terms
 
 pub accepted-kept : {n : ℕ} {s : List ℕ} {v : Valued} → Accepted n s v → Kept (v .k) (map (writable s) (map (term n (length s)) (v .units)))
 accepted-kept {n} {s} {v} a =
@@ -225,10 +225,10 @@ accepted-kept {n} {s} {v} a =
       few = rw c few;
     }
   where
-    few : length (a .parts) ≤ 32
-    few = go (decLt 32 (length (a .parts)))
+    few : length (a .parts) ≤ most-terms
+    few = go (decLt most-terms (length (a .parts)))
       where
-        go : Dec (32 < length (a .parts)) → length (a .parts) ≤ 32
+        go : Dec (most-terms < length (a .parts)) → length (a .parts) ≤ most-terms
         go (yes h) = absurd (a .clear 7 (Condition.seven (a .factor, a .parts, a .derived, h)))
         go (no h) = omega arith
 
@@ -251,7 +251,7 @@ rereads m s t a b h w = record {
 }
 
 accepted-rereads : {n : ℕ} {s : List ℕ} {v : Valued} → Accepted n s v → (m : ℕ) (t : List ℕ) (a : Reading) → a ≡ reading-of n (v .k) (map (term n (length s)) (v .units))
-    → written-reading m s a ≡ some t → length t ≤ 255 → Rereads m a t (reading m t)
+    → written-reading m s a ≡ some t → length t ≤ most-bytes → Rereads m a t (reading m t)
 unfolding reading-of
 accepted-rereads {n} {s} {v} w m t a e h short =
     let q = accepted-kept w in
@@ -262,7 +262,7 @@ refusal-number : (i : ℕ) → refusal i .number ≡ i
 unfolding refusal
 refusal-number i = refl
 
-module _ (n : ℕ) (s : List ℕ) (m : ℕ) (t : List ℕ) (z : reading n s .number ≡ 0) (h : written-reading m s (reading n s) ≡ some t) (short : length t ≤ 255) where
+module _ (n : ℕ) (s : List ℕ) (m : ℕ) (t : List ℕ) (z : reading n s .number ≡ 0) (h : written-reading m s (reading n s) ≡ some t) (short : length t ≤ most-bytes) where
   written-rereads : Rereads m (reading n s) t (reading m t)
   written-rereads = go (answer-of n s)
     where
@@ -285,15 +285,15 @@ pub record Succeeds (n : ℕ) (s : List ℕ) (m : ℕ) (t : List ℕ) : Type 0 w
   pub read : reading n s .number ≡ 0
   pub target : notation m ≡ true
   pub writes : written-reading m s (reading n s) ≡ some t
-  pub short : length t ≤ 255
+  pub short : length t ≤ most-bytes
 
 pub rewriting-succeeds : (n : ℕ) (s : List ℕ) (m : ℕ) → rewriting n s m .number ≡ 0 → Succeeds n s m (rewriting n s m .text)
 unfolding rewriting unless sized
 rewriting-succeeds n s m h = go (eqb (reading n s .number) 0) (notation m) (written-reading m s (reading n s)) refl refl refl h
   where
-    last : (t : List ℕ) (b : Bool) → leb (length t) 255 ≡ b → eqb (reading n s .number) 0 ≡ true → notation m ≡ true → written-reading m s (reading n s) ≡ some t
+    last : (t : List ℕ) (b : Bool) → leb (length t) most-bytes ≡ b → eqb (reading n s .number) 0 ≡ true → notation m ≡ true → written-reading m s (reading n s) ≡ some t
         → unless b 13 (record { number = 0; text = t }) .number ≡ 0 → Succeeds n s m (unless b 13 (record { number = 0; text = t }) .text)
-    last t true f p q o h = record { read = eqb-true (reading n s .number) 0 p; target = q; writes = o; short = leb-true (length t) 255 f }
+    last t true f p q o h = record { read = eqb-true (reading n s .number) 0 p; target = q; writes = o; short = leb-true (length t) most-bytes f }
     last t false f p q o h = absurd (omega arith)
 
     go : (a b : Bool) (o : Option (List ℕ)) → eqb (reading n s .number) 0 ≡ a → notation m ≡ b → written-reading m s (reading n s) ≡ o
@@ -301,12 +301,12 @@ rewriting-succeeds n s m h = go (eqb (reading n s .number) 0) (notation m) (writ
     go false b o p q e h = absurd (eqb-false (reading n s .number) 0 p h)
     go true false o p q e h = absurd (omega arith)
     go true true none p q e h = absurd (omega arith)
-    go true true (some t) p q e h = last t (leb (length t) 255) refl p q e h
+    go true true (some t) p q e h = last t (leb (length t) most-bytes) refl p q e h
 
-passes : (n : ℕ) (s : List ℕ) (m : ℕ) (t : List ℕ) → reading n s .number ≡ 0 → notation m ≡ true → written-reading m s (reading n s) ≡ some t → length t ≤ 255
+passes : (n : ℕ) (s : List ℕ) (m : ℕ) (t : List ℕ) → reading n s .number ≡ 0 → notation m ≡ true → written-reading m s (reading n s) ≡ some t → length t ≤ most-bytes
     → rewriting n s m ≡ record { number = 0; text = t }
 unfolding rewriting unless sized
-passes n s m t z e h short = rw (eq-eqb (reading n s .number) 0 z, e, h, le-leb (length t) 255 short)
+passes n s m t z e h short = rw (eq-eqb (reading n s .number) 0 z, e, h, le-leb (length t) most-bytes short)
 
 -- Demand 2: "A rewritten label, read in its new notation, gives the same units, prefixes, exponents and power of ten."
 pub rewriting-content : (n : ℕ) (s : List ℕ) (m : ℕ) → rewriting n s m .number ≡ 0 → SameContent (reading n s) (reading m (rewriting n s m .text))

@@ -18,7 +18,7 @@ use Rattle.label.specs.Prefixes.{prefix-named, prefix-name}
 use Rattle.label.specs.Units.{Name, unit-at}
 use Rattle.label.specs.Symbols.{Symbol, known, unknown, has-name, symbol}
 use Rattle.label.specs.Lexical.{Written, unwritten, whole, fraction, Letters, PrefixName, Quoted, Bracketed}
-use Rattle.label.specs.Limits.{signed, negative, ratio, exponent-of}
+use Rattle.label.specs.Limits.{signed, negative, ratio, exponent-of, parts-of-one, most-sixtieths}
 use Rattle.label.specs.Letters.{prefix-letters}
 use Rattle.label.specs.Writing.{sign-text, figures, whole-text, fraction-text, power-text, exponent-text, same-prefix, same-symbol, reads-as, name-among, name-in, named-text, in-quotes, unknown-text, symbol-text}
 use Rattle.label.specs.Rows.{Style}
@@ -40,16 +40,16 @@ pub record PowerRead (r : Rules) (z : Exponent) (t : List ℕ) : Type 0 where
   pub value : exponent-of false power ≡ some z
   pub fine : Fine t
 
-unwritten-value : (e : ℕ) → Lowered e 1 1 → e ≤ 5_940 → exponent-of false unwritten ≡ some (record { 0 = signed false e })
+unwritten-value : (e : ℕ) → Lowered e 1 1 → e ≤ most-sixtieths → exponent-of false unwritten ≡ some (record { 0 = signed false e })
 unfolding exponent-of ratio
 unwritten-value e w h = ratio-back false e 1 1 w h
 
-whole-value : (b : Bool) (e p : ℕ) (ds : List ℕ) → Digited p ds → Lowered e p 1 → e ≤ 5_940
+whole-value : (b : Bool) (e p : ℕ) (ds : List ℕ) → Digited p ds → Lowered e p 1 → e ≤ most-sixtieths
     → exponent-of false (whole (record { negative = b; digits = ds })) ≡ some (record { 0 = signed b e })
 unfolding exponent-of ratio
 whole-value b e p ds d w h = rw (d .value, d .short) (ratio-back b e p 1 w h)
 
-fraction-value : (b : Bool) (e p q : ℕ) (ds es : List ℕ) → Digited p ds → Digited q es → Lowered e p q → e ≤ 5_940
+fraction-value : (b : Bool) (e p q : ℕ) (ds es : List ℕ) → Digited p ds → Digited q es → Lowered e p q → e ≤ most-sixtieths
     → exponent-of false (fraction (record { negative = b; digits = ds }) es) ≡ some (record { 0 = signed b e })
 unfolding exponent-of ratio
 fraction-value b e p q ds es d f w h = rw (d .value, d .short, f .value, f .short) (ratio-back b e p q w h)
@@ -63,18 +63,18 @@ slash-quiet : (s : List ℕ) → T (all quiet s) → T (all quiet (slash ∷ s))
 unfolding all quiet admitted
 slash-quiet s t = t
 
-unwritten-read : {r : Rules} {e p q : ℕ} → Lowered e p q → p ≡ 1 → q ≡ 1 → e ≤ 5_940 → PowerRead r (record { 0 = signed false e }) []
+unwritten-read : {r : Rules} {e p q : ℕ} → Lowered e p q → p ≡ 1 → q ≡ 1 → e ≤ most-sixtieths → PowerRead r (record { 0 = signed false e }) []
 unfolding all
 unwritten-read {e = e} w f g h = record { power = unwritten; derived = ExponentBy.none; value = unwritten-value e (rw (f, g) at w) h; fine = fine-quiet [] tt }
 
-module _ {y : Style} {r : Rules} (v : Suits y r) (b : Bool) {e p q : ℕ} (w : Lowered e p q) (low : 1 ≤ e) (high : e ≤ 5_940) where
+module _ {y : Style} {r : Rules} (v : Suits y r) (b : Bool) {e p q : ℕ} (w : Lowered e p q) (low : 1 ≤ e) (high : e ≤ most-sixtieths) where
   numerator-of : Digited p (figures p)
   numerator-of = figures-of p (omega (arith, w .equal, product)) (omega (arith, w .equal, most))
     where
       product : 1 ≤ e * q
       product = mul-le-mul low (w .positive)
 
-      most : e * q ≤ 5_940 * 60
+      most : e * q ≤ most-sixtieths * parts-of-one
       most = mul-le-mul high (w .within)
 
   denominator-of : Digited q (figures q)
@@ -139,7 +139,7 @@ module _ {y : Style} {r : Rules} (v : Suits y r) (b : Bool) {e p q : ℕ} (w : L
 -- an exponent that a label may have
 pub record WithinBounds (e : Exponent) : Type 0 where
   pub low : 1 ≤ natAbs (e .0)
-  pub high : natAbs (e .0) ≤ 5_940
+  pub high : natAbs (e .0) ≤ most-sixtieths
 
 pub exponent-read : {y : Style} {r : Rules} → Suits y r → (e : Exponent) → WithinBounds e → (t : List ℕ) → exponent-text y e ≡ some t → PowerRead r e t
 unfolding exponent-text

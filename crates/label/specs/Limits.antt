@@ -33,6 +33,9 @@ parts-of-one = 60
 abbrev pub largest-exponent : ℕ
 largest-exponent = 99
 
+abbrev pub most-sixtieths : ℕ
+most-sixtieths = parts-of-one * largest-exponent
+
 -- "A leading factor is ten to the k, k from -99 to 99."
 abbrev pub largest-k : ℕ
 largest-k = 99
@@ -93,7 +96,7 @@ sixtieths q = parts-of-one * q .numerator / q .denominator
 
 -- none of the bounds on an exponent is broken
 abbrev pub bounded : Ratio → Bool
-bounded q = q .short && (in-sixtieths q && leb (sixtieths q) (parts-of-one * largest-exponent))
+bounded q = q .short && (in-sixtieths q && leb (sixtieths q) most-sixtieths)
 
 -- the exponent that a power stands for, turned over by slashes or not, if it keeps its bounds
 unfoldable pub exponent-in : Bool → Ratio → Option Exponent
@@ -135,13 +138,17 @@ pub record Fraction : Type 0 where
   pub numerator : ℤ
   pub denominator : ℕ
 
--- the first of the divisors of 60 that makes a whole number of e sixtieths
+-- the divisors of 60
+abbrev pub divisors : List ℕ
+divisors = 1 ∷ 2 ∷ 3 ∷ 4 ∷ 5 ∷ 6 ∷ 10 ∷ 12 ∷ 15 ∷ 20 ∷ 30 ∷ 60 ∷ []
+
+-- the first of some divisors of 60 that makes a whole number of e sixtieths
 unfoldable pub denominator-among : ℕ → List ℕ → ℕ
 denominator-among e [] = parts-of-one
 denominator-among e (q ∷ qs) = elim (eqb (e * q % parts-of-one) 0) [ true ↦ q | false ↦ denominator-among e qs ]
 
 unfoldable pub denominator-of : ℤ → ℕ
-denominator-of e = denominator-among (natAbs e) (1 ∷ 2 ∷ 3 ∷ 4 ∷ 5 ∷ 6 ∷ 10 ∷ 12 ∷ 15 ∷ 20 ∷ 30 ∷ 60 ∷ [])
+denominator-of e = denominator-among (natAbs e) divisors
 
 abbrev pub negative : ℤ → Bool
 negative (ℤ.pos n) = false

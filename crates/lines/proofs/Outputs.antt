@@ -10,7 +10,7 @@ use lib.ListN.{length, take, drop}
 use lib.Seq.{take-all, length-take-le}
 use Rattle.bytes.specs.Bytes.{indexOf}
 use Rattle.label.specs.Bytes.{newline}
-use Rattle.label.specs.Lines.{parts, last-line, answer, answers, output-after}
+use Rattle.label.specs.Lines.{parts, last-line, answer, answers, output-after, most-line}
 use Rattle.lines.specs.Feeding.{most-kept}
 use Rattle.lines.proofs.Parts.{part-ends, part-goes-on, parts-found, parts-missing}
 use Rattle.lines.proofs.Lines.{answer-long}
@@ -18,9 +18,9 @@ use Rattle.lines.proofs.Lines.{answer-long}
 -- LONG LINES
 
 pub answer-kept : (p : List ℕ) → answer (take most-kept p) ≡ answer p
-answer-kept p = go (decLt 512 (length p))
+answer-kept p = go (decLt most-line (length p))
   where
-    go : Dec (512 < length p) → answer (take most-kept p) ≡ answer p
+    go : Dec (most-line < length p) → answer (take most-kept p) ≡ answer p
     go (yes h) = answer-long (take most-kept p) (omega (arith, length-take-le most-kept p (omega arith))) ∙ sym (answer-long p h)
     go (no h) = ap answer (take-all most-kept p (omega arith))
 

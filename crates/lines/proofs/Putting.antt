@@ -15,7 +15,7 @@ use Rattle.label.specs.Choice.{pick}
 use Rattle.label.specs.Lines.{decimal, malformed, answer-with}
 use Rattle.label.specs.Writing.{Rewriting}
 use Rattle.label.proofs.Bounded.{BoundedRewriting}
-use Rattle.lines.specs.Writing.{Puts, number-text, most-answer}
+use Rattle.lines.specs.Writing.{Puts, number-text, most-answer, most-id}
 
 abbrev pub over : List ℕ → List ℕ → List ℕ
 over t b = t ++ drop (length t) b
@@ -160,7 +160,7 @@ module _ (id b b₁ p₂ p₃ : List ℕ) (r : Rewriting) (bounded : BoundedRewr
         bytes-are = rw e (bytes-put size result-size (rw e at result) (rw e at number));
       })
 
-pub answer-size : (r : Rewriting) → BoundedRewriting r → (at size result-size : ℕ) → at ≤ 509 → size ≡ length (number-text (r .number)) → result-size ≡ length (r .text)
+pub answer-size : (r : Rewriting) → BoundedRewriting r → (at size result-size : ℕ) → at ≤ most-id → size ≡ length (number-text (r .number)) → result-size ≡ length (r .text)
     → at + size + result-size ≤ most-answer
 answer-size r bounded at size result-size h p q = go (decLt (r .number) 10)
   where

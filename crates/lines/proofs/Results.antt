@@ -8,12 +8,13 @@ use borrow.Author.Tests.{le-leb}
 use Rattle.label.specs.Writing.{unless}
 use Rattle.label.specs.Writing.{rewriting}
 use Rattle.label.proofs.Bounded.{rewriting-bounded}
-use Rattle.rewriting.specs.declared.rewrite.Rewritten.{Rewritten}
 use Rattle.label.specs.Writing.{fitted, rewriting-into, buffer-with}
+use Rattle.label.specs.Limits.{most-bytes}
+use Rattle.rewriting.specs.declared.rewrite.Rewritten.{Rewritten}
 use Rattle.rewriting.specs.Buffers.{AnswerIs}
 use Rattle.lines.specs.Writing.{Puts}
 
-module _ (n : ℕ) (s : List ℕ) (m : ℕ) (b c : List ℕ) (r : Rewritten) (room : 255 ≤ length b) where
+module _ (n : ℕ) (s : List ℕ) (m : ℕ) (b c : List ℕ) (r : Rewritten) (room : most-bytes ≤ length b) where
   all-fits : rewriting-into (length b) n s m ≡ rewriting n s m
   unfolding rewriting-into fitted unless
   all-fits = rw (le-leb (length (rewriting n s m .text)) (length b) (omega (arith, rewriting-bounded n s m .short)))

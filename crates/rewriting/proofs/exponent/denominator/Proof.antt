@@ -5,12 +5,12 @@ use mathlib.Core.Path.{_≡_}
 use mathlib.Core.List.{[], _∷_}
 use lib.IntN.{pos}
 use borrow.Author.Needs.{needs}
-use Rattle.label.specs.Limits.{denominator-of}
+use Rattle.label.specs.Limits.{denominator-of, divisors}
 use Rattle.rewriting.proofs.NumberLaws.{DenominatorFound, divides-one, divides-not-one, divides-here, divides-later, divides-sixty}
 use Rattle.rewriting.proofs.exponent.denominator.Statement.{statement}
 use Rattle.rewriting.proofs.exponent.denominator.Tie as tie
 
-found : {e r : ℕ} → DenominatorFound e (1 ∷ 2 ∷ 3 ∷ 4 ∷ 5 ∷ 6 ∷ 10 ∷ 12 ∷ 15 ∷ 20 ∷ 30 ∷ 60 ∷ []) r → (r ≡ denominator-of (pos e)) × (r ≤ 60)
+found : {e r : ℕ} → DenominatorFound e divisors r → (r ≡ denominator-of (pos e)) × (r ≤ 60)
 unfolding denominator-of
 found w = (w .is, w .small)
 

@@ -4,9 +4,9 @@
 use symbols::Span;
 use symbols::SymbolAt;
 use symbols::lookup::symbol;
-use symbols::tables::name_codes;
-use symbols::tables::name_keys;
-use symbols::tables::prefix_codes;
+use symbols::name_table::name_codes;
+use symbols::name_table::name_keys;
+use symbols::prefix_table::prefix_codes;
 ghost use Prim.Native.Nat.{ℕ, _<_};
 ghost use mathlib.Core.Path.{_≡_};
 ghost use mathlib.Core.List.{List};

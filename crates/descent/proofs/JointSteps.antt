@@ -15,7 +15,7 @@ use Rattle.label.specs.Parse.{stop, times, padded, spaced, joint-at, joint, lea
 use Rattle.label.proofs.Basics.{false-true}
 use Rattle.scan.specs.Runs.{Run, is-space}
 use Rattle.label.proofs.Between.{here, beyond}
-use Rattle.tokens.proofs.Readers.{by-byte, byte-tested, byte-and}
+use Rattle.tokens.proofs.Readers.{by-byte}
 use Rattle.descent.specs.declared.joint.JointAt.{JointAt}
 use Rattle.descent.specs.Joints.{separates, Pads, Joins, SpacesJoin, Leads, slashed, Slashes}
 
@@ -27,10 +27,6 @@ module _ {r : Rules} {s : List ℕ} {at : ℕ} where
   pub pads-nothing : r .spaces ≡ false → at ≤ length s → Pads r s at at
   unfolding padded
   pads-nothing f h = record { rest = rw f; from = omega arith; within = h }
-
--- a byte that is tested for, where the flag b is set, is in the text
-pub tested-room : (s : List ℕ) (at c : ℕ) (b : Bool) {x : ℕ} {t : Bool} → x ≡ getD s at 0 → t ≡ (eqb x c && b) → t ≡ true → 0 < c → at + 1 ≤ length s
-tested-room s at c b h e q l = omega (arith, byte-tested s at c b l (byte-and c b h e q))
 
 -- SPACES
 

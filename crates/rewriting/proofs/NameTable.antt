@@ -29,6 +29,7 @@ use Rattle.symbols.specs.Views.{place}
 use Rattle.symbols.proofs.Computing.{columns-compute}
 use Rattle.symbols.proofs.RowLaws.{every, every-at}
 use Rattle.symbols.proofs.KeyLaws.{keyable, long-other, SpellingKey, agrees-spelled}
+use Rattle.symbols.proofs.UnitLaws.{units-count}
 use Rattle.symbols.proofs.NameLaws as laws
 use Rattle.symbols.proofs.PrefixLaws as prefix-laws
 use Rattle.rewriting.specs.declared.name.NameRange.{NameRange}
@@ -259,10 +260,6 @@ ends-in-table u = leb (place-at (suc u)) name-count
 parts-in-table : all-below ends-in-table unit-count ≡ true
 unfolding all-below ends-in-table place-at places-from first-places columns-compute
 parts-in-table = refl
-
-units-count : length units ≡ unit-count
-unfolding columns-compute
-units-count = refl
 
 module _ (u : ℕ) (h : u < unit-count) where
   part-in-table : InTable (record { first = place-at u; end = place-at (suc u) })

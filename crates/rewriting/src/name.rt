@@ -2,7 +2,7 @@
 use symbols::keys::has_notation;
 use symbols::keys::key;
 use symbols::lookup::is_name;
-use symbols::tables::UNITS;
+use symbols::unit_table::UNITS;
 ghost use Prim.Native.Nat.{ℕ, _≤_, _<_};
 ghost use mathlib.Core.Path.{_≡_};
 ghost use mathlib.Core.List.{List};

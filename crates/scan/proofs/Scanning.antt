@@ -1,11 +1,14 @@
 -- Scans, for any class of bytes: each turn, and the run that is found.
 use Prim.Native.Nat.{ℕ, suc, _≤_, _<_, _-_, _+_}
 use native.Mathlib.Omega.{arith}
-use mathlib.Core.Path.{_≡_, refl, sym, ap, _∙_}
+use native.Mathlib.Decide.{decLt}
+use mathlib.Core.Path.{_≡_, refl, sym, ap, subst, fun-ext, _∙_}
 use mathlib.Core.Bool.{Bool, true, false}
 use mathlib.Core.List.{List, _++_, append-assoc, append-nil}
+use lib.Dec.{eqb}
 use lib.ListN.{length, drop, getD}
-use Rattle.label.specs.Bytes.{run as run-of, past}
+use borrow.Author.Tests.{le-leb, lt-leb, eq-eqb, ne-eqb}
+use Rattle.label.specs.Bytes.{within, run as run-of, past}
 use Rattle.label.specs.Ranges.{between}
 use Rattle.scan.specs.Runs.{Run}
 use Rattle.label.proofs.Between.{here, beyond, length-between, between-none, between-more}
@@ -46,6 +49,18 @@ ended p s at i h w = record {
   bytes = rw (append-nil) at (rw (beyond s i h) at (w .bytes));
   rest = rw (beyond s i h) (rw (beyond s i h) at (w .rest));
 }
+
+-- from a byte to itself is that byte alone
+one-within : (a x : ℕ) → within a a x ≡ eqb x a
+one-within a x = go (decLt x a) (decLt a x)
+  where
+    go : Dec (x < a) → Dec (a < x) → within a a x ≡ eqb x a
+    go (yes h) _ = rw (lt-leb a x h, ne-eqb x a (λ e. omega arith))
+    go (no h) (yes g) = rw (le-leb a x (omega arith), lt-leb x a g, ne-eqb x a (λ e. omega arith))
+    go (no h) (no g) = rw (le-leb a x (omega arith), le-leb x a (omega arith), eq-eqb x a (omega arith))
+
+pub run-of-one : (a : ℕ) {s : List ℕ} {at e : ℕ} → Run (within a a) s at e → Run (λ x. eqb x a) s at e
+run-of-one a {s} {at} {e} w = subst (λ (p : ℕ → Bool). Run p s at e) (fun-ext (one-within a)) w
 
 -- a run that begins with a byte of its class goes on past it
 pub run-ahead : {p : ℕ → Bool} {s : List ℕ} {at e : ℕ} → Run p s at e → at < length s → p (getD s at 0) ≡ true → at < e

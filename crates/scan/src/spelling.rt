@@ -4,7 +4,7 @@ use crate::class::is_letter;
 use crate::run::letters;
 use label::Rules;
 use symbols::lookup::prefix_named;
-use symbols::tables::prefix_codes;
+use symbols::prefix_table::prefix_codes;
 ghost use Prim.Native.Nat.{_≤_, _<_};
 ghost use mathlib.Core.Path.{_≡_};
 ghost use lib.ListN.{length};

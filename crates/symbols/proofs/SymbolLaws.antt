@@ -16,7 +16,7 @@ use Rattle.label.specs.Prefixes.{prefix-named}
 use Rattle.label.specs.Ranges.{between}
 use Rattle.symbols.specs.declared.PrefixCut.{PrefixCut}
 use Rattle.symbols.specs.declared.SymbolAt.{SymbolAt}
-use Rattle.symbols.specs.Views.{place, symbol-in, after-prefix, prefix-cut, unit-cut, BoundedSymbol, LettersAt, CutAt, FirstPrefixed, FirstQuote}
+use Rattle.symbols.specs.Views.{place, symbol-in, after-prefix, prefix-cut, unit-cut, BoundedSymbol, UpTo, LettersAt, CutAt, FirstPrefixed, FirstQuote}
 use Rattle.symbols.proofs.CutLaws.{cut-list, two-then-one}
 use Rattle.label.proofs.Between.{between-none, between-cons, length-between, take-between, drop-between}
 
@@ -199,26 +199,31 @@ module _ (n : ℕ) (l : List ℕ) (w : ℕ) (e : place w ≡ unit-named n l) whe
 
 -- QUOTES
 
-module _ (n : ℕ) {s : List ℕ} {start end q : ℕ} (g : end ≤ length s) (w : FirstQuote s start end q) where
-  pub with-quote : q < end → unknown (prefix-named (between s start q)) (run unquoted (between s (q + 1) end)) ≡ symbol n (between s start end)
-  unfolding symbol by-quote
-  with-quote h = rw (← w .after, ← w .before, between-cons s q end h g)
+-- r is the symbol that the bytes of s from start up to end spell, and its letters are among them
+abbrev SpelledBy : ℕ → List ℕ → ℕ → ℕ → SymbolAt → Type 0
+SpelledBy n s start end r =
+    (symbol-in s r ≡ symbol n (between s start end))
+    × (BoundedSymbol start end r × (r .known ≡ false → LettersAt s start end (r .start) (r .end)))
 
-  pub without-quote : end ≤ q → by-whole n (between s start end) (unit-named n (between s start end)) ≡ symbol n (between s start end)
+-- the first quote is at q, or there is none and q is the end
+module _ (n : ℕ) {s : List ℕ} {start end q : ℕ} (g : end ≤ length s) (w : FirstQuote s start end q) where
+  symbol-quoted : q < end → unknown (prefix-named (between s start q)) (run unquoted (between s (q + 1) end)) ≡ symbol n (between s start end)
   unfolding symbol by-quote
-  without-quote h =
+  symbol-quoted h = rw (← w .after, ← w .before, between-cons s q end h g)
+
+  symbol-plain : end ≤ q → by-whole n (between s start end) (unit-named n (between s start end)) ≡ symbol n (between s start end)
+  unfolding symbol by-quote
+  symbol-plain h =
       let e : q ≡ end = omega (arith, w .upto) in
       rw (← w .after, e, between-none s end)
 
--- where the letters are
-module _ {s : List ℕ} {start end q : ℕ} (g : end ≤ length s) (w : FirstQuote s start end q) where
-  pub letters-quoted : q < end → {first : ℕ} (last : ℕ) → first ≡ q + 1 → LettersAt s start end first last
+  letters-quoted : q < end → {first : ℕ} (last : ℕ) → first ≡ q + 1 → LettersAt s start end first last
   letters-quoted h last e = record {
     quoted = λ c t z. let k = length-between s start q (omega (arith, w .upto)) in rw (← w .before) (omega arith);
     plain = λ z. let k : suc (length (between s (q + 1) end)) ≡ 0 = ap length (sym (between-cons s q end h g) ∙ w .after ∙ z) in absurd (omega arith);
   }
 
-  pub letters-plain : end ≤ q → (first : ℕ) {last : ℕ} → last ≡ end → LettersAt s start end first last
+  letters-plain : end ≤ q → (first : ℕ) {last : ℕ} → last ≡ end → LettersAt s start end first last
   letters-plain h first e = record {
     quoted = λ c t z.
         let i : q ≡ end = omega (arith, w .upto) in
@@ -226,3 +231,11 @@ module _ {s : List ℕ} {start end q : ℕ} (g : end ≤ length s) (w : FirstQuo
         absurd (omega arith);
     plain = λ z. e;
   }
+
+  pub with-quote : q < end → {r : SymbolAt} → symbol-in s r ≡ unknown (prefix-named (between s start q)) (run unquoted (between s (q + 1) end))
+      → BoundedSymbol start end r × (r .start ≡ q + 1) → SpelledBy n s start end r
+  with-quote h {r} e b = (e ∙ symbol-quoted h, (b .0, λ _. letters-quoted h (r .end) (b .1)))
+
+  pub without-quote : end ≤ q → {r : SymbolAt} → symbol-in s r ≡ by-whole n (between s start end) (unit-named n (between s start end))
+      → BoundedSymbol start end r × UpTo end r → SpelledBy n s start end r
+  without-quote h {r} e b = (e ∙ symbol-plain h, (b .0, λ f. letters-plain h (r .start) (b .1 .last f)))

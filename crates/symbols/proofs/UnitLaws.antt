@@ -1,13 +1,13 @@
 -- The columns of units and of the prefixes' powers: what each tells of each row, and how large it is.
 use Prim.Native.Nat.{ℕ, zero, suc, _+_, _*_, _-_, _%_, _≤_, _<_}
 use native.Mathlib.Omega.{arith}
-use mathlib.Core.Path.{_≡_, refl, sym}
+use mathlib.Core.Path.{_≡_, refl, sym, ap, _∙_}
 use mathlib.Core.Bool.{Bool, true, false, cond}
 use mathlib.Core.List.{List, [], _∷_}
 use mathlib.Core.Option.{Option, none, some}
 use lib.Dec.{T, leb, ltb, eqb, leb→le, le→leb}
 use lib.IntN.{ℤ, pos, negsuc, subℕ, _+ℤ_, +ℤ-idr}
-use lib.ListN.{length, getD, List·getD-map}
+use lib.ListN.{length, getD, List·getD-map, List·getD-eq-default}
 use lib.Signed.{mag}
 use mir.Syntax.{w8, w32}
 use mir.Val.{SFits, toZ, ofZ}
@@ -22,7 +22,7 @@ use Rattle.label.specs.Symbols.{Symbol, known, unknown}
 use Rattle.label.proofs.Basics.{all-below}
 use Rattle.symbols.specs.Sets.{bits, has-bit}
 use Rattle.symbols.specs.Slots.{unused, slot, prime-at, prime-slot, four-each, adds}
-use Rattle.symbols.specs.Columns.{prefix-powers, unit-prefixed, unit-recommended, unit-bases, unit-powers, unit-primes}
+use Rattle.symbols.specs.Columns.{unit-count, prefix-powers, unit-prefixed, unit-recommended, unit-bases, unit-powers, unit-primes}
 use Rattle.symbols.specs.Views.{place, slot-in}
 use Rattle.symbols.proofs.Computing.{columns-compute}
 use Rattle.symbols.proofs.SetLaws.{alike, told-by-bits, bit-member}
@@ -77,6 +77,14 @@ four-at f d e (x ∷ us) (suc u) k h =
     let z : suc u * 4 + k ≡ suc (suc (suc (suc (u * 4 + k)))) = omega arith in
     rw z (four-at f d e us u k h)
 
+no-primes : (k : ℕ) → k < 4 → prime-slot k no-unit ≡ pos 0
+unfolding multiplicity
+no-primes zero h = refl
+no-primes (suc zero) h = refl
+no-primes (suc (suc zero)) h = refl
+no-primes (suc (suc (suc zero))) h = refl
+no-primes (suc (suc (suc (suc k)))) h = absurd (omega arith)
+
 module _ (u k : ℕ) (h : k < 4) where
   pub base-at : getD unit-bases (u * 4 + k) 0 ≡ slot k (unit-at u) .base
   unfolding unit-bases
@@ -87,15 +95,22 @@ module _ (u k : ℕ) (h : k < 4) where
   power-at = four-at (λ k u. slot k u .power) (pos 0) (λ k g. refl) units u k h
 
   pub primes-at : getD unit-primes (u * 4 + k) (pos 0) ≡ prime-slot k (unit-at u)
-  unfolding unit-primes multiplicity
-  primes-at = four-at prime-slot (pos 0) go units u k h
-    where
-      go : (k : ℕ) → k < 4 → prime-slot k no-unit ≡ pos 0
-      go zero h = refl
-      go (suc zero) h = refl
-      go (suc (suc zero)) h = refl
-      go (suc (suc (suc zero))) h = refl
-      go (suc (suc (suc (suc k)))) h = absurd (omega arith)
+  unfolding unit-primes
+  primes-at = four-at prime-slot (pos 0) no-primes units u k h
+
+-- past the last unit
+pub units-count : length units ≡ unit-count
+unfolding columns-compute
+units-count = refl
+
+past-units : unit-at unit-count ≡ no-unit
+past-units = List·getD-eq-default units no-unit (omega (arith, units-count))
+
+pub no-slot : (k : ℕ) → slot k (unit-at unit-count) ≡ unused
+no-slot k = ap (slot k) past-units
+
+pub no-prime-slot : (k : ℕ) → k < 4 → prime-slot k (unit-at unit-count) ≡ pos 0
+no-prime-slot k h = ap (prime-slot k) past-units ∙ no-primes k h
 
 -- PREFIXES
 

@@ -14,6 +14,7 @@ use Rattle.label.specs.Symbols as spec
 use Rattle.label.specs.Units.{BasePower, unit-at}
 use Rattle.symbols.specs.declared.SymbolAt.{SymbolAt}
 use Rattle.symbols.specs.declared.PrefixCut.{PrefixCut}
+use Rattle.symbols.specs.Columns.{unit-count}
 use Rattle.symbols.specs.Slots.{unused, slot}
 
 -- a place in a table: 0 is none, and any other number is one more than the place
@@ -87,6 +88,10 @@ pub record FirstPrefixed (two one : PrefixCut) (end : ℕ) (r : SymbolAt) : Type
   pub upto : UpTo end r
 
 -- SLOTS
+
+-- the row of a symbol's unit, or the number of units where it is unknown
+abbrev pub row-of : SymbolAt → ℕ
+row-of x = pick (x .known) (x .unit) unit-count
 
 -- slot k of a symbol's unit
 unfoldable pub slot-in : ℕ → spec.Symbol → BasePower

@@ -1,9 +1,13 @@
 // Spellings of units: constant tables of prefixes and known units, and the symbol that a spelling stands for.
+pub mod dimension_table;
 pub mod groups;
 pub mod keys;
 pub mod lookup;
+pub mod name_table;
+pub mod prefix_table;
 pub mod properties;
-pub mod tables;
+pub mod size_table;
+pub mod unit_table;
 
 // What a spelling stands for.
 pub struct SymbolAt {

@@ -2,6 +2,7 @@
 // A symbol's letters have no part in it, so each contract holds whatever the label `s` is.
 use crate::SymbolAt;
 use crate::keys::has_notation;
+use crate::unit_table::UNITS;
 use label::Tens;
 ghost use mathlib.Core.Path.{_≡_};
 ghost use mathlib.Core.List.{List};
@@ -14,7 +15,7 @@ ghost use Rattle.label.specs.Reading.{is-lawful, is-recommended, prime-in};
 ghost use Rattle.symbols.specs.Slots.{prime-at};
 ghost use Rattle.symbols.specs.Columns.{prefix-powers, unit-prefixed, unit-recommended};
 ghost use Rattle.symbols.specs.Columns.{unit-bases, unit-powers, unit-primes};
-ghost use Rattle.symbols.specs.Views.{place, symbol-in, slot-in};
+ghost use Rattle.symbols.specs.Views.{place, symbol-in, row-of, slot-in};
 
 // The element at `i`, or 0 past the end.
 fn element(column: &[u8], i: usize) -> u8
@@ -34,6 +35,17 @@ fn signed_element(column: &[i8], i: usize) -> i32
         return column[i] as i32;
     }
     0
+}
+
+// The row of a symbol's unit, or the place after the last row where the unit is unknown.
+fn row(x: SymbolAt) -> usize
+    ensures { λ r. ⌜ r ≡ row-of x ⌝ }
+    ensures { λ r. ⌜ r < 256 ⌝ }
+{
+    if x.known {
+        return x.unit as usize;
+    }
+    UNITS
 }
 
 // Whether a symbol's prefix is lawful on its unit in notation `n`. A symbol that has no prefix
@@ -72,11 +84,7 @@ pub fn slot_base(bases: &[u8], x: SymbolAt, slot: usize) -> u8
     requires { ⌜ (now bases ≡ unit-bases) × (slot < 4) ⌝ }
     ensures { λ r. ⌜ ((s : List ℕ) → r ≡ slot-in slot (symbol-in s x) .base) ⌝ }
 {
-    if !x.known {
-        return 0;
-    }
-    let unit = x.unit as usize;
-    element(bases, unit * 4 + slot)
+    element(bases, row(x) * 4 + slot)
 }
 
 // The power of that base.
@@ -84,11 +92,7 @@ pub fn slot_power(powers: &[i8], x: SymbolAt, slot: usize) -> i32
     requires { ⌜ (now powers ≡ unit-powers) × (slot < 4) ⌝ }
     ensures { λ r. ⌜ ((s : List ℕ) → r ≡ slot-in slot (symbol-in s x) .power) ⌝ }
 {
-    if !x.known {
-        return 0;
-    }
-    let unit = x.unit as usize;
-    signed_element(powers, unit * 4 + slot)
+    signed_element(powers, row(x) * 4 + slot)
 }
 
 // The power of ten of the prefix at that place. No prefix is 10 to the 0.
@@ -121,10 +125,6 @@ pub fn prime_power(powers: &[i8], primes: &[i8], x: SymbolAt, prime: usize) -> i
     ensures { λ r. ⌜ ((s : List ℕ) → r ≡ prime-in (prime-at prime) (symbol-in s x)) ⌝ }
 {
     let tens = prefix_prime(powers, x.prefix, prime);
-    if !x.known {
-        return tens;
-    }
-    let unit = x.unit as usize;
-    let size = signed_element(primes, unit * 4 + prime);
+    let size = signed_element(primes, row(x) * 4 + prime);
     tens + size
 }

@@ -48,6 +48,13 @@ byte-not e n t = n (e ∙ t)
 pub byte-and : (c : ℕ) (b : Bool) {x y : ℕ} {t v : Bool} → x ≡ y → t ≡ (eqb x c && b) → t ≡ v → (eqb y c && b) ≡ v
 byte-and c b h e q = rw (← h) (sym e ∙ q)
 
+-- a byte that is tested for is in the text; so is one that is tested for where the flag b is set
+pub found-room : (s : List ℕ) (at c : ℕ) {x : ℕ} → x ≡ getD s at 0 → x ≡ c → 0 < c → at + 1 ≤ length s
+found-room s at c e t l = omega (arith, byte-found s at c l (byte-is e t))
+
+pub tested-room : (s : List ℕ) (at c : ℕ) (b : Bool) {x : ℕ} {t : Bool} → x ≡ getD s at 0 → t ≡ (eqb x c && b) → t ≡ true → 0 < c → at + 1 ≤ length s
+tested-room s at c b h e q l = omega (arith, byte-tested s at c b l (byte-and c b h e q))
+
 pub class-is : (p : ℕ → Bool) {x y : ℕ} {t : Bool} → x ≡ y → t ≡ p x → t ≡ p y
 class-is p h e = rw (← h) e
 

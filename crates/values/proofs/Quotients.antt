@@ -12,13 +12,14 @@ use native.Mathlib.Omega.{arith}
 use borrow.Author.Tests.{leb-true, le-leb, lt-leb, eq-eqb, ne-eqb}
 use Rattle.label.specs.declared.DigitRange.{DigitRange}
 use Rattle.label.specs.declared.Exponent.{Exponent}
+use Rattle.label.specs.declared.SignedDigits.{SignedDigits}
 use Rattle.label.specs.Choice.{pick}
-use Rattle.label.specs.Limits.{Ratio, short, signed, exclusive-or, in-sixtieths, sixtieths, bounded, exponent-in}
-use Rattle.label.specs.Ranges.{digits-in, Inside}
+use Rattle.label.specs.Limits.{Ratio, ratio, short, signed, exclusive-or, in-sixtieths, sixtieths, bounded, exponent-in}
+use Rattle.label.specs.Ranges.{digits-in, numeral-in, Inside}
 use Rattle.label.proofs.Basics.{false-true, and-left, and-right}
 use Rattle.values.specs.Bounds.{numerator-bound}
 use Rattle.values.specs.declared.ratios.Quotient.{Quotient}
-use Rattle.values.specs.Quotients.{ratio-of, HoldsRatio}
+use Rattle.values.specs.Quotients.{ratio-of, two-runs, HoldsRatio}
 use Rattle.values.proofs.Numbers.{run-length}
 use Rattle.values.proofs.SignedNumbers.{told}
 
@@ -84,6 +85,12 @@ short-in s d h = ap (λ (n : ℕ). leb n 4) (run-length s d h)
 pub both-short-in : (s : List ℕ) (a b : DigitRange) → Inside s a → Inside s b →
     (short (digits-in s a) && short (digits-in s b)) ≡ (leb (a .end - a .start) 4 && leb (b .end - b .start) 4)
 both-short-in s a b h g = rw (short-in s a h, short-in s b g)
+
+pub two-runs-short : (point : Bool) (s : List ℕ) (n : SignedDigits) (d : DigitRange) → Inside s (n .digits) → Inside s d →
+    ratio (two-runs point (numeral-in s n) (digits-in s d)) .short ≡ (leb (n .digits .end - n .digits .start) 4 && leb (d .end - d .start) 4)
+unfolding ratio
+two-runs-short true s n d h g = both-short-in s (n .digits) d h g
+two-runs-short false s n d h g = both-short-in s (n .digits) d h g
 
 -- two runs that are short
 pub runs-short : (a b : DigitRange) → (leb (a .end - a .start) 4 && leb (b .end - b .start) 4) ≡ true → (a .end - a .start ≤ 4) × (b .end - b .start ≤ 4)

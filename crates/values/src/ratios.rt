@@ -9,11 +9,11 @@ use label::WrittenPower;
 ghost use mathlib.Core.Path.{_≡_};
 ghost use mathlib.Core.Bool.{false};
 ghost use Prim.Native.Nat.{_^_, _<_, _≤_};
-ghost use Rattle.label.specs.Lexical.{whole, decimal, fraction};
+ghost use Rattle.label.specs.Lexical.{whole};
 ghost use Rattle.label.specs.Limits.{most-digits, ratio};
 ghost use Rattle.label.specs.Ranges.{digits-in, numeral-in, written-in, Inside, PowerInside};
 ghost use Rattle.values.specs.Bounds.{numerator-bound};
-ghost use Rattle.values.specs.Quotients.{HoldsRatio};
+ghost use Rattle.values.specs.Quotients.{two-runs, HoldsRatio};
 
 // A power's sign, its size as a fraction, and whether its digit runs are short. The fraction is 0/1 where one is long.
 pub struct Quotient {
@@ -67,38 +67,29 @@ fn whole_ratio(s: &[u8], n: SignedDigits) -> Quotient
     }
 }
 
-// The ratio that a decimal is: its digits as one number, over ten to the count of those after the point.
-fn decimal_ratio(s: &[u8], n: SignedDigits, d: DigitRange) -> Quotient
+// The ratio that two digit runs write. With a point between them it is all their digits as one number, over ten to the count of
+// those after the point; with a slash it is a fraction.
+fn two_run_ratio(s: &[u8], n: SignedDigits, d: DigitRange, point: bool) -> Quotient
     requires { ⌜ Inside (now s) (n .digits) ⌝ }
     requires { ⌜ Inside (now s) d ⌝ }
-    ensures { λ r. ⌜ HoldsRatio (ratio (decimal (numeral-in (now (s .entry)) n) (digits-in (now (s .entry)) d))) r ⌝ }
+    ensures { λ r. ⌜ HoldsRatio (ratio (two-runs point (numeral-in (now (s .entry)) n) (digits-in (now (s .entry)) d))) r ⌝ }
 {
     let digits = n.digits;
     if !are_short(digits, d) {
         return long(n.negative);
     }
     let before = number(s, digits);
-    Quotient {
-        negative: n.negative,
-        numerator: number_from(s, before, d) as u64,
-        denominator: power_of_ten(d.end - d.start),
-        short: true,
-    }
-}
-
-// The ratio that a fraction is.
-fn fraction_ratio(s: &[u8], n: SignedDigits, d: DigitRange) -> Quotient
-    requires { ⌜ Inside (now s) (n .digits) ⌝ }
-    requires { ⌜ Inside (now s) d ⌝ }
-    ensures { λ r. ⌜ HoldsRatio (ratio (fraction (numeral-in (now (s .entry)) n) (digits-in (now (s .entry)) d))) r ⌝ }
-{
-    let digits = n.digits;
-    if !are_short(digits, d) {
-        return long(n.negative);
+    if point {
+        return Quotient {
+            negative: n.negative,
+            numerator: number_from(s, before, d) as u64,
+            denominator: power_of_ten(d.end - d.start),
+            short: true,
+        };
     }
     Quotient {
         negative: n.negative,
-        numerator: number(s, digits) as u64,
+        numerator: before as u64,
         denominator: number(s, d) as u64,
         short: true,
     }
@@ -117,7 +108,7 @@ pub fn power_ratio(s: &[u8], w: WrittenPower) -> Quotient
             short: true,
         },
         WrittenPower::Whole(n) => whole_ratio(s, n),
-        WrittenPower::Decimal(n, d) => decimal_ratio(s, n, d),
-        WrittenPower::Fraction(n, d) => fraction_ratio(s, n, d),
+        WrittenPower::Decimal(n, d) => two_run_ratio(s, n, d, true),
+        WrittenPower::Fraction(n, d) => two_run_ratio(s, n, d, false),
     }
 }

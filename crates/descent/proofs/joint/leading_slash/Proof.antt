@@ -1,6 +1,7 @@
 use native.Mathlib.Omega.{arith}
 use Rattle.label.specs.Bytes.{slash}
-use Rattle.descent.proofs.JointSteps.{tested-room, slash-leads, no-slash-leads}
+use Rattle.tokens.proofs.Readers.{tested-room}
+use Rattle.descent.proofs.JointSteps.{slash-leads, no-slash-leads}
 use borrow.Author.Needs.{needs}
 use Rattle.descent.proofs.joint.leading_slash.Statement.{statement}
 use Rattle.descent.proofs.joint.leading_slash.Tie as tie

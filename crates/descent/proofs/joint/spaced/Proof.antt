@@ -1,6 +1,7 @@
 use native.Mathlib.Omega.{arith}
 use Rattle.label.specs.Bytes.{space}
-use Rattle.descent.proofs.JointSteps.{tested-room, spaces-join, no-space-joins}
+use Rattle.tokens.proofs.Readers.{tested-room}
+use Rattle.descent.proofs.JointSteps.{spaces-join, no-space-joins}
 use borrow.Author.Needs.{needs}
 use Rattle.descent.proofs.joint.spaced.Statement.{statement}
 use Rattle.descent.proofs.joint.spaced.Tie as tie

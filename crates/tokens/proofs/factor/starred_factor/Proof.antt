@@ -1,7 +1,7 @@
 -- `tokens::factor::starred_factor` meets its contract: each way is one of `FactorSteps`.
 use native.Mathlib.Omega.{arith}
 use Rattle.label.specs.Bytes.{star}
-use Rattle.tokens.proofs.Readers.{byte-found, byte-is, byte-not}
+use Rattle.tokens.proofs.Readers.{found-room, byte-is, byte-not}
 use Rattle.tokens.proofs.FactorSteps.{starred-factor₁, starred-factor₂}
 use borrow.Author.Needs.{needs}
 use Rattle.tokens.proofs.factor.starred_factor.Statement.{statement}
@@ -16,8 +16,7 @@ add-wrapped c = search needs
 wrapped-requires : tie.Need-wrapped-requires
 wrapped-requires c κs =
     let a = c .before .before .before .args in
-    let h = byte-found (a .s .now) (a .at) star (omega arith) (byte-is (c .before .byte-at .ensures) (c .if1 .taken)) in
-    omega arith
+    found-room (a .s .now) (a .at) star (c .before .byte-at .ensures) (c .if1 .taken) (omega arith)
 
 returns : tie.Need-returns
 returns c = let a = c .before .before .before .before .args in starred-factor₁ (a .r) (a .s .now) (a .at) (byte-is (c .before .before .byte-at .ensures) (c .before .if1 .taken)) (c .wrapped .ensures)

@@ -3,7 +3,7 @@ use native.Mathlib.Omega.{arith}
 use Rattle.label.specs.Bytes.{caret, star}
 use Rattle.label.specs.Parse.{sign}
 use Rattle.label.specs.Ranges.{between}
-use Rattle.tokens.proofs.Readers.{byte-found, byte-tested, byte-is, byte-not, byte-and, byte-class}
+use Rattle.tokens.proofs.Readers.{found-room, tested-room, byte-is, byte-not, byte-and, byte-class}
 use Rattle.tokens.proofs.FactorSteps.{ten₁, ten₂, ten₃, ten₄}
 use borrow.Author.Needs.{needs}
 use Rattle.tokens.proofs.factor.ten_factor.Statement.{statement}
@@ -38,8 +38,7 @@ add-wrapped c = search needs
 wrapped-requires : tie.Need-wrapped-requires
 wrapped-requires c κs =
     let a = c .before .before .before .before .before .before .before .args in
-    let h = byte-tested (a .s .now) (a .end) caret (a .r .caret) (omega arith) (byte-and caret (a .r .caret) (c .before .before .before .before .before .byte-at .ensures) (c .before .both2 .ensures) (c .if2 .taken)) in
-    omega arith
+    tested-room (a .s .now) (a .end) caret (a .r .caret) (c .before .before .before .before .before .byte-at .ensures) (c .before .both2 .ensures) (c .if2 .taken) (omega arith)
 
 returns-2 : tie.Need-returns-2
 returns-2 c =
@@ -53,8 +52,7 @@ add-starred-factor c = search needs
 starred-factor-requires : tie.Need-starred-factor-requires
 starred-factor-requires c κs =
     let a = c .before .before .before .before .before .before .before .before .args in
-    let h = byte-found (a .s .now) (a .end) star (omega arith) (byte-is (c .before .before .before .before .before .before .byte-at .ensures) (c .if3 .taken)) in
-    omega arith
+    found-room (a .s .now) (a .end) star (c .before .before .before .before .before .before .byte-at .ensures) (c .if3 .taken) (omega arith)
 
 returns-3 : tie.Need-returns-3
 returns-3 c =

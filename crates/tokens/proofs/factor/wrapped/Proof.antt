@@ -1,7 +1,7 @@
 -- `tokens::factor::wrapped` meets its contract: each way is one of `FactorSteps`.
 use native.Mathlib.Omega.{arith}
 use Rattle.label.specs.Bytes.{open-bracket}
-use Rattle.tokens.proofs.Readers.{byte-tested, byte-and}
+use Rattle.tokens.proofs.Readers.{tested-room, byte-and}
 use Rattle.tokens.proofs.FactorSteps.{wrapped₁, wrapped₂}
 use borrow.Author.Needs.{needs}
 use Rattle.tokens.proofs.factor.wrapped.Statement.{statement}
@@ -19,8 +19,7 @@ add-integer c = search needs
 integer-requires : tie.Need-integer-requires
 integer-requires c κs =
     let a = c .before .before .before .before .args in
-    let h = byte-tested (a .s .now) (a .at) open-bracket (a .r .wrapped) (omega arith) (byte-and open-bracket (a .r .wrapped) (c .before .before .byte-at .ensures) (c .before .both .ensures) (c .if1 .taken)) in
-    omega arith
+    tested-room (a .s .now) (a .at) open-bracket (a .r .wrapped) (c .before .before .byte-at .ensures) (c .before .both .ensures) (c .if1 .taken) (omega arith)
 
 closed-tens-requires : tie.Need-closed-tens-requires
 closed-tens-requires c κs = search needs

@@ -1,7 +1,7 @@
 -- `tokens::number::integer` meets its contract: each way is one of `Numbers`.
 use native.Mathlib.Omega.{arith}
 use Rattle.label.specs.Bytes.{plus, minus}
-use Rattle.tokens.proofs.Readers.{byte-found, byte-is, byte-not}
+use Rattle.tokens.proofs.Readers.{found-room, byte-is, byte-not}
 use Rattle.tokens.proofs.Numbers.{integer₁, integer₂, integer₃}
 use borrow.Author.Needs.{needs}
 use Rattle.tokens.proofs.number.integer.Statement.{statement}
@@ -16,8 +16,7 @@ add-unsigned c = search needs
 unsigned-requires : tie.Need-unsigned-requires
 unsigned-requires c κs =
     let a = c .before .before .before .args in
-    let h = byte-found (a .s .now) (a .at) minus (omega arith) (byte-is (c .before .byte-at .ensures) (c .if1 .taken)) in
-    omega arith
+    found-room (a .s .now) (a .at) minus (c .before .byte-at .ensures) (c .if1 .taken) (omega arith)
 
 under-sign-requires : tie.Need-under-sign-requires
 under-sign-requires c κs = search needs
@@ -31,8 +30,7 @@ add-unsigned-2 c = search needs
 unsigned-requires-2 : tie.Need-unsigned-requires-2
 unsigned-requires-2 c κs =
     let a = c .before .before .before .before .args in
-    let h = byte-found (a .s .now) (a .at) plus (omega arith) (byte-is (c .before .before .byte-at .ensures) (c .if2 .taken)) in
-    omega arith
+    found-room (a .s .now) (a .at) plus (c .before .before .byte-at .ensures) (c .if2 .taken) (omega arith)
 
 under-sign-requires-2 : tie.Need-under-sign-requires-2
 under-sign-requires-2 c κs = search needs

@@ -1,7 +1,7 @@
 -- `tokens::power::bracketed_on` meets its contract: each way is one of `PowerSteps`.
 use native.Mathlib.Omega.{arith}
 use Rattle.label.specs.Bytes.{close-bracket, point, slash}
-use Rattle.tokens.proofs.Readers.{byte-found, byte-is, byte-not}
+use Rattle.tokens.proofs.Readers.{byte-found, found-room, byte-is, byte-not}
 use Rattle.tokens.proofs.PowerSteps.{bracketed-on₁, bracketed-on₂, bracketed-on₃, bracketed-on₄}
 use borrow.Author.Needs.{needs}
 use Rattle.tokens.proofs.power.bracketed_on.Statement.{statement}
@@ -25,8 +25,7 @@ add-some-digits c = search needs
 some-digits-requires : tie.Need-some-digits-requires
 some-digits-requires c κs =
     let a = c .before .before .before .before .args in
-    let h = byte-found (a .s .now) (a .at) point (omega arith) (byte-is (c .before .before .byte-at .ensures) (c .if2 .taken)) in
-    omega arith
+    found-room (a .s .now) (a .at) point (c .before .before .byte-at .ensures) (c .if2 .taken) (omega arith)
 
 closed-power-requires : tie.Need-closed-power-requires
 closed-power-requires c κs = search needs
@@ -40,8 +39,7 @@ add-unsigned c = search needs
 unsigned-requires : tie.Need-unsigned-requires
 unsigned-requires c κs =
     let a = c .before .before .before .before .before .args in
-    let h = byte-found (a .s .now) (a .at) slash (omega arith) (byte-is (c .before .before .before .byte-at .ensures) (c .if3 .taken)) in
-    omega arith
+    found-room (a .s .now) (a .at) slash (c .before .before .before .byte-at .ensures) (c .if3 .taken) (omega arith)
 
 closed-power-requires-2 : tie.Need-closed-power-requires-2
 closed-power-requires-2 c κs = search needs

@@ -1,7 +1,7 @@
 -- `tokens::power::power` meets its contract: each way is one of `PowerSteps`.
 use native.Mathlib.Omega.{arith}
 use Rattle.label.specs.Bytes.{open-bracket}
-use Rattle.tokens.proofs.Readers.{byte-found, byte-is, byte-not}
+use Rattle.tokens.proofs.Readers.{found-room, byte-is, byte-not}
 use Rattle.tokens.proofs.PowerSteps.{power₁, power₂}
 use borrow.Author.Needs.{needs}
 use Rattle.tokens.proofs.power.power.Statement.{statement}
@@ -16,8 +16,7 @@ add-bracketed c = search needs
 bracketed-requires : tie.Need-bracketed-requires
 bracketed-requires c κs =
     let a = c .before .before .before .args in
-    let h = byte-found (a .s .now) (a .at) open-bracket (omega arith) (byte-is (c .before .byte-at .ensures) (c .if1 .taken)) in
-    omega arith
+    found-room (a .s .now) (a .at) open-bracket (c .before .byte-at .ensures) (c .if1 .taken) (omega arith)
 
 returns : tie.Need-returns
 returns c = let a = c .before .before .before .before .args in power₁ (a .s .now) (a .at) (byte-is (c .before .before .byte-at .ensures) (c .before .if1 .taken)) (c .bracketed .ensures)

@@ -3,7 +3,7 @@ use native.Mathlib.Omega.{arith}
 use mathlib.Core.Bool.{_||_}
 use Rattle.label.specs.Bytes.{caret, open-bracket, star, digit}
 use Rattle.label.specs.Parse.{sign}
-use Rattle.tokens.proofs.Readers.{byte-tested, byte-and, byte-class}
+use Rattle.tokens.proofs.Readers.{tested-room, byte-and, byte-class}
 use Rattle.tokens.proofs.PowerSteps.{after₁, after₂, after₃, after₄, after₅}
 use borrow.Author.Needs.{needs}
 use Rattle.tokens.proofs.power.power_after.Statement.{statement}
@@ -38,8 +38,7 @@ add-bracketed c = search needs
 bracketed-requires : tie.Need-bracketed-requires
 bracketed-requires c κs =
     let a = c .before .before .before .before .before .before .before .args in
-    let h = byte-tested (a .s .now) (a .at) open-bracket (a .r .brackets) (omega arith) (byte-and open-bracket (a .r .brackets) (c .before .before .before .before .before .byte-at .ensures) (c .before .both2 .ensures) (c .if2 .taken)) in
-    omega arith
+    tested-room (a .s .now) (a .at) open-bracket (a .r .brackets) (c .before .before .before .before .before .byte-at .ensures) (c .before .both2 .ensures) (c .if2 .taken) (omega arith)
 
 returns-2 : tie.Need-returns-2
 returns-2 c =
@@ -56,8 +55,7 @@ add-power c = search needs
 power-requires : tie.Need-power-requires
 power-requires c κs =
     let a = c .before .before .before .before .before .before .before .before .before .args in
-    let h = byte-tested (a .s .now) (a .at) caret (a .r .caret) (omega arith) (byte-and caret (a .r .caret) (c .before .before .before .before .before .before .before .byte-at .ensures) (c .before .both3 .ensures) (c .if3 .taken)) in
-    omega arith
+    tested-room (a .s .now) (a .at) caret (a .r .caret) (c .before .before .before .before .before .before .before .byte-at .ensures) (c .before .both3 .ensures) (c .if3 .taken) (omega arith)
 
 returns-3 : tie.Need-returns-3
 returns-3 c =
@@ -72,8 +70,7 @@ both-requires-4 c κs = search needs
 starred-requires : tie.Need-starred-requires
 starred-requires c κs =
     let a = c .before .before .before .before .before .before .before .before .before .before .before .args in
-    let h = byte-tested (a .s .now) (a .at) star (a .r .stars) (omega arith) (byte-and star (a .r .stars) (c .before .before .before .before .before .before .before .before .before .byte-at .ensures) (c .before .both4 .ensures) (c .if4 .taken)) in
-    omega arith
+    omega (arith, tested-room (a .s .now) (a .at) star (a .r .stars) (c .before .before .before .before .before .before .before .before .before .byte-at .ensures) (c .before .both4 .ensures) (c .if4 .taken) (omega arith))
 
 returns-4 : tie.Need-returns-4
 returns-4 c =

@@ -2,7 +2,7 @@
 use native.Mathlib.Omega.{arith}
 use Prim.Native.Nat.{_+_}
 use Rattle.label.specs.Bytes.{star}
-use Rattle.tokens.proofs.Readers.{byte-found, byte-is, byte-not}
+use Rattle.tokens.proofs.Readers.{found-room, byte-is, byte-not}
 use Rattle.tokens.proofs.PowerSteps.{starred₁, starred₂}
 use borrow.Author.Needs.{needs}
 use Rattle.tokens.proofs.power.starred.Statement.{statement}
@@ -20,8 +20,7 @@ add-power c = search needs
 power-requires : tie.Need-power-requires
 power-requires c κs =
     let a = c .before .before .before .args in
-    let h = byte-found (a .s .now) (a .at + 1) star (omega arith) (byte-is (c .before .byte-at .ensures) (c .if1 .taken)) in
-    omega arith
+    found-room (a .s .now) (a .at + 1) star (c .before .byte-at .ensures) (c .if1 .taken) (omega arith)
 
 returns : tie.Need-returns
 returns c = let a = c .before .before .before .before .args in starred₁ (a .s .now) (a .at) (byte-is (c .before .before .byte-at .ensures) (c .before .if1 .taken)) (c .power .ensures)

@@ -21,14 +21,14 @@ whole-ratio-requires c κs = let a = c .before .before .before .before in subst 
 enum-known-w-2 : tie.Need-enum-known-w-2
 enum-known-w-2 c = search needs
 
-decimal-ratio-requires : tie.Need-decimal-ratio-requires
-decimal-ratio-requires c κs = let a = c .before .before .before .before in subst (λ (w : WrittenPower). PowerInside (a .args .s .now) w) (c .before .w2 .given .1) (a .pre)
+two-run-ratio-requires : tie.Need-two-run-ratio-requires
+two-run-ratio-requires c κs = let a = c .before .before .before .before in subst (λ (w : WrittenPower). PowerInside (a .args .s .now) w) (c .before .w2 .given .1) (a .pre)
 
 enum-known-w-3 : tie.Need-enum-known-w-3
 enum-known-w-3 c = search needs
 
-fraction-ratio-requires : tie.Need-fraction-ratio-requires
-fraction-ratio-requires c κs = let a = c .before .before .before .before in subst (λ (w : WrittenPower). PowerInside (a .args .s .now) w) (c .before .w3 .given .1) (a .pre)
+two-run-ratio-requires-2 : tie.Need-two-run-ratio-requires-2
+two-run-ratio-requires-2 c κs = let a = c .before .before .before .before in subst (λ (w : WrittenPower). PowerInside (a .args .s .now) w) (c .before .w3 .given .1) (a .pre)
 
 returns : tie.Need-returns
 unfolding ratio
@@ -38,10 +38,10 @@ returns-2 : tie.Need-returns-2
 returns-2 c = rw (c .before .before .w .given .1) (c .whole-ratio .ensures)
 
 returns-3 : tie.Need-returns-3
-returns-3 c = rw (c .before .before .w2 .given .1) (c .decimal-ratio .ensures)
+returns-3 c = rw (c .before .before .w2 .given .1) (c .two-run-ratio .ensures)
 
 returns-4 : tie.Need-returns-4
-returns-4 c = rw (c .before .before .w3 .given .1) (c .fraction-ratio .ensures)
+returns-4 c = rw (c .before .before .w3 .given .1) (c .two-run-ratio2 .ensures)
 
 pub power-ratio-spec : {M : Type 1} → statement M
 power-ratio-spec =
@@ -51,9 +51,9 @@ power-ratio-spec =
     enum-known-w
     whole-ratio-requires
     enum-known-w-2
-    decimal-ratio-requires
+    two-run-ratio-requires
     enum-known-w-3
-    fraction-ratio-requires
+    two-run-ratio-requires-2
     returns
     returns-2
     returns-3

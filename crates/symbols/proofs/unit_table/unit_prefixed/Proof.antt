@@ -1,8 +1,8 @@
--- `symbols::tables::unit_prefixed` meets its contract: the column is computed from the tables of label/specs.
+-- `symbols::unit_table::unit_prefixed` meets its contract: the column is computed from the tables of label/specs.
 use mathlib.Core.Path.{refl}
 use Rattle.symbols.proofs.Computing.{columns-compute}
-use Rattle.symbols.proofs.tables.unit_prefixed.Statement.{statement}
-use Rattle.symbols.proofs.tables.unit_prefixed.Tie as tie
+use Rattle.symbols.proofs.unit_table.unit_prefixed.Statement.{statement}
+use Rattle.symbols.proofs.unit_table.unit_prefixed.Tie as tie
 
 returns : tie.Need-returns
 unfolding columns-compute

@@ -4,6 +4,7 @@ use descent::terms::BROKEN;
 use descent::terms::COUNT;
 use descent::terms::PLACES;
 use descent::whole::read_label;
+use label::MOST_BRACKETS;
 use label::MOST_BYTES;
 use label::MOST_TERMS;
 use label::Tens;
@@ -54,7 +55,7 @@ pub fn check_values(s: &[u8], written: WrittenFactor, count: usize, broken: usiz
     let f = factor(s, written);
     let ten = f.ok;
     let whole = broken == 0;
-    let shallow = deepest(s) <= 8;
+    let shallow = deepest(s) <= MOST_BRACKETS;
     let few = count <= MOST_TERMS;
     let number = due(ten, 5, due(whole, 5, due(shallow, 6, due(few, 7, 0))));
     let k = f.k;

@@ -5,6 +5,7 @@ use crate::sums::add_power;
 use label::Exponent;
 use label::MOST_TERMS;
 use symbols::SymbolAt;
+use symbols::dimension_table::SLOTS;
 use symbols::dimension_table::unit_bases;
 use symbols::dimension_table::unit_powers;
 use symbols::properties::slot_base;
@@ -28,7 +29,7 @@ fn add_bases(bases: &[u8], powers: &[i8], x: SymbolAt, e: Exponent, sums: &mut [
         Added (λ b. base-in b (symbol-in s x)) e (now (sums .entry)) (now (sums .exit))) ⌝ }
 {
     let mut slot = 0;
-    while slot < 4 {
+    while slot < SLOTS {
         let power = slot_power(powers, x, slot);
         if power != 0 {
             let base = slot_base(bases, x, slot) as usize;

@@ -1,7 +1,6 @@
 // The scale of a reading: the exponents of the primes 2, 3, 5 and 487, from the factor, the prefixes and the sizes.
 use crate::named::NAME_PLACES;
 use crate::named::symbol_at;
-use crate::sums::PRIMES;
 use crate::sums::add_power;
 use label::Exponent;
 use label::MOST_TERMS;
@@ -10,6 +9,7 @@ use label::Tens;
 use symbols::SymbolAt;
 use symbols::prefix_table::prefix_powers;
 use symbols::properties::prime_power;
+use symbols::size_table::PRIMES;
 use symbols::size_table::unit_primes;
 ghost use mathlib.Core.Path.{_≡_};
 ghost use mathlib.Core.List.{List};

@@ -1,13 +1,12 @@
 // One step of a sum of exponents.
 use label::Exponent;
+use symbols::size_table::PRIMES;
 ghost use mathlib.Core.Path.{_≡_};
 ghost use Prim.Native.Nat.{_+_, _≤_, _^_};
 ghost use lib.IntN.{natAbs, _+ℤ_, _*ℤ_};
 
 // The sums of a reading: one for each base, by its number, then those of 2, 3, 5 and 487.
 pub const BASES: usize = 32;
-
-pub const PRIMES: usize = 4;
 
 pub const SUMS: usize = BASES + PRIMES;
 

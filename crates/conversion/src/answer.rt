@@ -35,6 +35,11 @@ pub fn unless(passed: bool, i: u8, x: Conversion) -> Conversion
     refuse_conversion(i)
 }
 
+// k is at most this far from 0.
+const LARGEST_TENS: i32 = 9_999;
+
+const LEAST_TENS: i32 = -LARGEST_TENS;
+
 // Whether the numerator, the denominator and k keep their limits.
 pub fn is_small(x: Conversion) -> bool
     ensures { λ r. ⌜ r ≡ small (conversion-in x) ⌝ }
@@ -47,8 +52,8 @@ pub fn is_small(x: Conversion) -> bool
     }
     let k = x.k;
     let tens = k.0;
-    if tens < -9_999 {
+    if tens < LEAST_TENS {
         return false;
     }
-    tens <= 9_999
+    tens <= LARGEST_TENS
 }

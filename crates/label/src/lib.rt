@@ -5,6 +5,11 @@ pub const MOST_BYTES: usize = 255;
 
 pub const MOST_TERMS: usize = 32;
 
+// The most digits of a run, and the most brackets that are open at once.
+pub const MOST_DIGITS: usize = 4;
+
+pub const MOST_BRACKETS: usize = 8;
+
 // One is so many parts: exponents are counted in sixtieths.
 pub const PARTS_OF_ONE: u64 = 60;
 

@@ -17,6 +17,9 @@ pub const MOST_LINE: usize = 512;
 
 pub const MOST_ANSWER: usize = 767;
 
+// How many bytes a 0 between tabs has.
+const ZERO_SIZE: usize = 3;
+
 // The refusal of a line that is too long or has not three tabs.
 const MALFORMED: u32 = 15;
 
@@ -37,7 +40,7 @@ fn put_result(source: u32, text: &[u8], target: u32, out: &mut [u8]) -> Rewritte
     rewrite(source, text, target, out)
 }
 
-// Puts the answer to the four fields of a line over the start of `out`. A result begins three bytes after the id, since its number is 0.
+// Puts the answer to the four fields of a line over the start of `out`. A result begins after a 0 between tabs.
 fn put_answer(id: &[u8], source: &[u8], text: &[u8], target: &[u8], out: &mut [u8]) -> usize
     requires { ⌜ (length (now id) ≤ most-id) × (most-answer ≤ length (now out)) ⌝ }
     ensures { λ r. ⌜ Puts (spec.answer-with (now (id .entry)) (rewriting (spec.notation-named (now (source .entry))) (now (text .entry)) (spec.notation-named (now (target .entry)))))
@@ -45,7 +48,7 @@ fn put_answer(id: &[u8], source: &[u8], text: &[u8], target: &[u8], out: &mut [u
     ensures { λ r. ⌜ r ≤ most-answer ⌝ }
 {
     let number_at = bytes::copy(id, out);
-    let result_at = number_at + 3;
+    let result_at = number_at + ZERO_SIZE;
     let from = notation_named(source);
     let to = notation_named(target);
     let a = put_result(from, text, to, &mut out[result_at..]);

@@ -1,5 +1,6 @@
 // What each notation has, as label/specs/Rows.antt says: its rules, how it writes, and its name.
 use label::Rules;
+use symbols::keys::MOST_LETTERS;
 use symbols::keys::has_notation;
 use symbols::keys::key;
 use symbols::keys::same_symbol;
@@ -15,6 +16,8 @@ ghost use Rattle.notations.specs.Styles.{StyleOf};
 // How many notations there are: their numbers are 1 to this one.
 const NOTATIONS: u32 = 4;
 
+const ROWS: usize = NOTATIONS as usize;
+
 // Sets of one notation each. The bit is that of its number.
 const FITS: u8 = 1;
 
@@ -25,12 +28,12 @@ const CDS: u8 = 4;
 const VOUNITS: u8 = 8;
 
 // The notations' names, fits, ogip, cds and vou: how many letters they have, and their keys.
-const SIZES: [usize; 4] = [4, 4, 3, 3];
+const SIZES: [usize; ROWS] = [4, 4, 3, 3];
 
-const KEYS: [u64; 4] = [0x66697473, 0x6f676970, 0x636473, 0x766f75];
+const KEYS: [u64; ROWS] = [0x66697473, 0x6f676970, 0x636473, 0x766f75];
 
 // What joins the units that the notations write.
-const JOINTS: [u8; 4] = [b' ', b' ', b'.', b'.'];
+const JOINTS: [u8; ROWS] = [b' ', b' ', b'.', b'.'];
 
 // How a notation writes.
 pub struct Style {
@@ -180,7 +183,7 @@ pub fn rules(n: u8) -> Rules
     vounits()
 }
 
-fn joints() -> [u8; 4]
+fn joints() -> [u8; ROWS]
     ensures { λ r. ⌜ r ≡ joints ⌝ }
 {
     JOINTS
@@ -213,13 +216,13 @@ pub fn style_of(n: u8) -> Style
     }
 }
 
-fn notation_sizes() -> [usize; 4]
+fn notation_sizes() -> [usize; ROWS]
     ensures { λ r. ⌜ r ≡ notation-sizes ⌝ }
 {
     SIZES
 }
 
-fn notation_keys() -> [u64; 4]
+fn notation_keys() -> [u64; ROWS]
     ensures { λ r. ⌜ r ≡ notation-keys ⌝ }
 {
     KEYS
@@ -230,7 +233,7 @@ pub fn notation_named(name: &[u8]) -> u32
     ensures { λ r. ⌜ r ≡ notation-named (now (name .entry)) ⌝ }
 {
     let size = name.len();
-    if 8 < size {
+    if MOST_LETTERS < size {
         return 0;
     }
     let number = key(name, 0, size);

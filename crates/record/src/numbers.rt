@@ -3,8 +3,11 @@ ghost use Prim.Native.Nat.{_+_, _*_, _-_, _≤_};
 ghost use mathlib.Core.Path.{_≡_};
 ghost use mathlib.Core.List.{_++_};
 ghost use lib.ListN.{length, take, replicate};
-ghost use Rattle.record.specs.Record.{digits, encoded};
+ghost use Rattle.record.specs.Record.{field-size, digits, encoded};
 ghost use Rattle.record.specs.Record as spec;
+
+// How many bytes a number has.
+pub const FIELD_SIZE: usize = 8;
 
 // The number that 64 bits hold for `v` in two's complement.
 fn complement(v: i64) -> u64
@@ -18,12 +21,12 @@ fn complement(v: i64) -> u64
 
 // Writes a number at a place, the lowest byte first.
 fn put(b: &mut [u8], at: usize, n: u64)
-    requires { ⌜ at + 8 ≤ length (now b) ⌝ }
-    ensures { λ _. ⌜ take (at + 8) (now (b .exit)) ≡ take at (now (b .entry)) ++ digits 8 n ⌝ }
+    requires { ⌜ at + field-size ≤ length (now b) ⌝ }
+    ensures { λ _. ⌜ take (at + field-size) (now (b .exit)) ≡ take at (now (b .entry)) ++ digits field-size n ⌝ }
 {
     let mut rest = n;
     let mut i = 0;
-    while i < 8 {
+    while i < FIELD_SIZE {
         b[at + i] = (rest % 256) as u8;
         rest = rest / 256;
         i += 1;
@@ -32,13 +35,13 @@ fn put(b: &mut [u8], at: usize, n: u64)
 
 // Writes numbers from a place on.
 pub fn put_all(b: &mut [u8], at: usize, numbers: &[i64])
-    requires { ⌜ at + 8 * length (now numbers) ≤ length (now b) ⌝ }
-    ensures { λ _. ⌜ take (at + 8 * length (now (numbers .entry))) (now (b .exit)) ≡ take at (now (b .entry)) ++ encoded (now (numbers .entry)) ⌝ }
+    requires { ⌜ at + field-size * length (now numbers) ≤ length (now b) ⌝ }
+    ensures { λ _. ⌜ take (at + field-size * length (now (numbers .entry))) (now (b .exit)) ≡ take at (now (b .entry)) ++ encoded (now (numbers .entry)) ⌝ }
 {
     let mut i = 0;
     while i < numbers.len() {
         let n = complement(numbers[i]);
-        put(b, at + 8 * i, n);
+        put(b, at + FIELD_SIZE * i, n);
         i += 1;
     }
 }

@@ -3,6 +3,7 @@ use crate::fields::HEAD_FIELDS;
 use crate::fields::TERM_FIELDS;
 use crate::fields::head_fields;
 use crate::fields::term_fields;
+use crate::numbers::FIELD_SIZE;
 use crate::numbers::clear;
 use crate::numbers::put_all;
 use content::named::NAME_PLACES;
@@ -22,8 +23,6 @@ ghost use Rattle.content.specs.Views.{terms-in};
 ghost use Rattle.reading.specs.Views.{reading-in};
 ghost use Rattle.record.specs.Record.{encoded, terms-fields, record-of, head-size, term-place, dimensions-place, record-size};
 ghost use Rattle.record.specs.Recordable.{Sized, AllNoted, Recordable};
-
-const FIELD_SIZE: usize = 8;
 
 // Places in the record, in bytes.
 const HEAD_SIZE: usize = FIELD_SIZE * HEAD_FIELDS;

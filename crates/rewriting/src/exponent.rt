@@ -1,4 +1,5 @@
 // Exponents as they are written, in lowest terms.
+use crate::numbers::MOST_FIGURES;
 use crate::numbers::is_negative;
 use crate::numbers::magnitude;
 use crate::numbers::push_figures;
@@ -71,7 +72,7 @@ fn push_integer(text: &mut [u8; ROOM], at: usize, negative: bool, n: u64) -> usi
     ensures { λ r. ⌜ WritesText (now (text .entry)) at (some (sign-text false negative ++ figures n)) (now (text .exit)) r ⌝ }
 {
     let digits = push_sign(text, at, false, negative);
-    push_figures(text, digits, 4, n)
+    push_figures(text, digits, MOST_FIGURES, n)
 }
 
 // Whether a whole exponent has brackets.
@@ -114,7 +115,7 @@ fn push_fraction(
     let sign = push(text, first, b'(');
     let slash = push_integer(text, sign, negative, n);
     let digits = push(text, slash, b'/');
-    let close = push_figures(text, digits, 4, d);
+    let close = push_figures(text, digits, MOST_FIGURES, d);
     push(text, close, b')')
 }
 

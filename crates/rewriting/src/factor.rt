@@ -1,4 +1,5 @@
 // The factor as it is written.
+use crate::numbers::MOST_FIGURES;
 use crate::numbers::is_negative;
 use crate::numbers::magnitude;
 use crate::numbers::push_figures;
@@ -49,6 +50,6 @@ pub fn push_factor(text: &mut [u8; ROOM], at: usize, style: Style, k: Tens) -> u
     }
     let sign = push_ten(text, at, style.ten_stars);
     let digits = push_sign(text, sign, style.signed, is_negative(k.0));
-    let gap = push_figures(text, digits, 4, size);
+    let gap = push_figures(text, digits, MOST_FIGURES, size);
     push_gap(text, gap, style.gap)
 }

@@ -4,6 +4,7 @@ use crate::text::FORMLESS;
 use crate::text::ROOM;
 use crate::text::append;
 use crate::text::push;
+use symbols::keys::MOST_LETTERS;
 ghost use mathlib.Core.Path.{_≡_};
 ghost use mathlib.Core.List.{_++_};
 ghost use mathlib.Core.Option.{some};
@@ -20,6 +21,11 @@ pub const PLAIN: u8 = 1;
 
 pub const QUOTED: u8 = 2;
 
+// The most letters of a name, and of a prefix.
+const NAME_LETTERS: u8 = MOST_LETTERS as u8;
+
+const PREFIX_LETTERS: u8 = 2;
+
 pub struct UnitForm {
     pub kind: u8,
     // The keys of its prefix and its name, 0 for none.
@@ -35,7 +41,7 @@ fn push_letters(text: &mut [u8; ROOM], at: usize, s: &[u8], form: UnitForm) -> u
     requires { ⌜ (length (now text) ≡ text-room) × FormIn (now s) form ⌝ }
     ensures { λ r. ⌜ WritesText (now (text .entry)) at (some (letters-of 8 (form .name) ++ between (now (s .entry)) (form .start) (form .end))) (now (text .exit)) r ⌝ }
 {
-    let rest = push_key(text, at, 8, form.name);
+    let rest = push_key(text, at, NAME_LETTERS, form.name);
     append(text, rest, s, form.start, form.end)
 }
 
@@ -47,7 +53,7 @@ pub fn push_form(text: &mut [u8; ROOM], at: usize, s: &[u8], form: UnitForm) -> 
     if form.kind == NO_FORM {
         return FORMLESS;
     }
-    let first = push_key(text, at, 2, form.prefix);
+    let first = push_key(text, at, PREFIX_LETTERS, form.prefix);
     if form.kind == PLAIN {
         return push_letters(text, first, s, form);
     }

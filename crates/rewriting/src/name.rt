@@ -1,4 +1,6 @@
 // The name that a known unit takes in the target.
+use symbols::keys::MOST_LETTERS;
+use symbols::keys::ONE_BYTE;
 use symbols::keys::has_notation;
 use symbols::keys::key;
 use symbols::lookup::is_name;
@@ -65,7 +67,7 @@ pub fn letters_in(s: &[u8], start: usize, end: usize) -> Own
         return Own { size: 0, number: 0 };
     }
     let size = end - start;
-    if 8 < size {
+    if MOST_LETTERS < size {
         return Own { size, number: 0 };
     }
     let number = key(s, start, end);
@@ -86,7 +88,7 @@ fn is_known(codes: &[u32], n: u8, i: usize) -> bool
     ensures { λ r. ⌜ r ≡ member n (entry i .known-in) ⌝ }
 {
     let code = codes[i];
-    has_notation(n, (code / 256 % 256) as u8)
+    has_notation(n, (code / ONE_BYTE % ONE_BYTE) as u8)
 }
 
 // One more than the place of the name of these that has those letters and that notation `n` knows, or 0.

@@ -1,6 +1,7 @@
 // Numbers as they are written: signs and digits.
 use crate::text::ROOM;
 use crate::text::push;
+use label::MOST_DIGITS;
 ghost use Prim.Native.Nat.{ℕ, _≤_, _^_};
 ghost use mathlib.Core.Path.{_≡_};
 ghost use mathlib.Core.List.{[]};
@@ -10,6 +11,9 @@ ghost use lib.ListN.{length};
 ghost use Rattle.label.specs.Limits.{negative};
 ghost use Rattle.label.specs.Writing.{figures-before, sign-text};
 ghost use Rattle.rewriting.specs.Texts.{text-room, WritesText};
+
+// The most digits of a number that is written.
+pub const MOST_FIGURES: u8 = MOST_DIGITS as u8;
 
 // A number without its sign.
 pub fn magnitude(z: i32) -> u64

@@ -10,6 +10,7 @@ use content::named::number_at;
 use descent::terms::ENDS;
 use descent::terms::PLACES;
 use symbols::SymbolAt;
+use symbols::keys::TWO_BYTES;
 ghost use Prim.Native.Nat.{_<_};
 ghost use mathlib.Core.Path.{_≡_};
 ghost use Rattle.label.specs.Limits.{most-terms};
@@ -59,6 +60,6 @@ pub fn term_at(
     let code = prefix_code(prefixes, unit.prefix);
     let start = places[i];
     let end = places[ENDS + i];
-    let own = letters_in(s, start + (code / 65536) as usize, end);
+    let own = letters_in(s, start + (code / TWO_BYTES) as usize, end);
     SourceTerm { unit, own }
 }

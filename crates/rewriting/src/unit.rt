@@ -12,6 +12,7 @@ use crate::text::ROOM;
 use notations::rows::Style;
 use symbols::Span;
 use symbols::SymbolAt;
+use symbols::keys::TWO_BYTES;
 use symbols::lookup::symbol;
 ghost use Prim.Native.Nat.{ℕ, _≤_};
 ghost use mathlib.Core.Path.{_≡_};
@@ -85,7 +86,7 @@ fn plain_form(keys: &[u64], codes: &[u32], prefixes: &[u32], m: u8, term: Source
     ensures { λ r. ⌜ PlainOf m term r ⌝ }
 {
     let unit = term.unit;
-    let prefix = (prefix_code(prefixes, unit.prefix) % 65536) as u64;
+    let prefix = (prefix_code(prefixes, unit.prefix) % TWO_BYTES) as u64;
     if !unit.known {
         return UnitForm {
             kind: PLAIN,

@@ -4,8 +4,11 @@ use crate::unit_table::UNITS;
 ghost use mathlib.Core.Path.{_≡_};
 ghost use Rattle.symbols.specs.Columns.{unit-bases, unit-powers};
 
+// How many bases a unit may have.
+pub const SLOTS: usize = 4;
+
 // The bases of each unit, in four slots. An unused slot has base 0.
-const UNIT_BASES: [u8; UNITS * 4] = [
+const UNIT_BASES: [u8; UNITS * SLOTS] = [
     0, // m
     0,
     0,
@@ -253,7 +256,7 @@ const UNIT_BASES: [u8; UNITS * 4] = [
 ];
 
 // The powers of these bases. An unused slot has power 0.
-const UNIT_POWERS: [i8; UNITS * 4] = [
+const UNIT_POWERS: [i8; UNITS * SLOTS] = [
     1, // m
     0,
     0,
@@ -500,13 +503,13 @@ const UNIT_POWERS: [i8; UNITS * 4] = [
     0,
 ];
 
-pub fn unit_bases() -> [u8; UNITS * 4]
+pub fn unit_bases() -> [u8; UNITS * SLOTS]
     ensures { λ r. ⌜ r ≡ unit-bases ⌝ }
 {
     UNIT_BASES
 }
 
-pub fn unit_powers() -> [i8; UNITS * 4]
+pub fn unit_powers() -> [i8; UNITS * SLOTS]
     ensures { λ r. ⌜ r ≡ unit-powers ⌝ }
 {
     UNIT_POWERS

@@ -7,6 +7,17 @@ ghost use Rattle.symbols.specs.Keys.{key-of, agrees, most-letters};
 ghost use Rattle.symbols.specs.Sets.{has-bit};
 ghost use Rattle.symbols.specs.Views.{FirstQuote};
 
+// How many letters a key can hold.
+pub const MOST_LETTERS: usize = 8;
+
+// A code is made of bytes: it is divided by these.
+pub const ONE_BYTE: u32 = 256;
+
+pub const TWO_BYTES: u32 = 256 * ONE_BYTE;
+
+// The largest number of a notation that a set can have.
+const MOST_NOTATIONS: u8 = 8;
+
 // The bytes from `start` up to `end` as one number in base 256, the first byte highest.
 pub fn key(s: &[u8], start: usize, end: usize) -> u64
     requires { ⌜ (start ≤ end) × (end ≤ length (now s)) ⌝ }
@@ -34,14 +45,14 @@ pub fn same_symbol(size: usize, number: u64, symbol_size: usize, symbol_number: 
     false
 }
 
-// Whether `n` is a notation of the set. A set is a byte, so it has no notation above 8.
+// Whether `n` is a notation of the set. A set is a byte.
 pub fn has_notation(n: u8, set: u8) -> bool
     ensures { λ r. ⌜ r ≡ has-bit n set ⌝ }
 {
     if n < 1 {
         return false;
     }
-    if 8 < n {
+    if MOST_NOTATIONS < n {
         return false;
     }
     (set >> (n - 1)) % 2 == 1

@@ -3,6 +3,9 @@ use crate::PrefixCut;
 use crate::Span;
 use crate::SymbolAt;
 use crate::groups::first_in_group;
+use crate::keys::MOST_LETTERS;
+use crate::keys::ONE_BYTE;
+use crate::keys::TWO_BYTES;
 use crate::keys::first_quote;
 use crate::keys::has_notation;
 use crate::keys::key;
@@ -26,15 +29,12 @@ ghost use Rattle.symbols.specs.Views.{place, symbol-in, BoundedSymbol, U
 // In how many groups the keys of the names are.
 const GROUPS: u64 = 147;
 
-// How many letters a key can hold.
-const MOST_LETTERS: usize = 8;
-
 // Whether notation `n` knows a spelling by the name of that key and code.
 pub fn is_name(n: u8, size: usize, number: u64, key: u64, code: u32) -> bool
     ensures { λ r. ⌜ r ≡ (agrees size number (code / 65536) key && has-bit n (code / 256 % 256)) ⌝ }
 {
-    if same_symbol(size, number, (code / 65536) as usize, key) {
-        return has_notation(n, (code / 256 % 256) as u8);
+    if same_symbol(size, number, (code / TWO_BYTES) as usize, key) {
+        return has_notation(n, (code / ONE_BYTE % ONE_BYTE) as u8);
     }
     false
 }
@@ -54,7 +54,7 @@ pub fn unit_named(keys: &[u64], codes: &[u32], n: u8, s: &[u8], start: usize, en
     while i < NAMES {
         let code = codes[i];
         if is_name(n, size, number, keys[i], code) {
-            return (code % 256) as u8 + 1;
+            return (code % ONE_BYTE) as u8 + 1;
         }
         i += 1;
     }
@@ -65,7 +65,12 @@ pub fn unit_named(keys: &[u64], codes: &[u32], n: u8, s: &[u8], start: usize, en
 fn is_prefix(size: usize, number: u64, code: u32) -> bool
     ensures { λ r. ⌜ r ≡ agrees size number (code / 65536) (code % 65536) ⌝ }
 {
-    same_symbol(size, number, (code / 65536) as usize, (code % 65536) as u64)
+    same_symbol(
+        size,
+        number,
+        (code / TWO_BYTES) as usize,
+        (code % TWO_BYTES) as u64,
+    )
 }
 
 // One more than the place of the prefix that the spelling from `start` up to `end` is, or 0.

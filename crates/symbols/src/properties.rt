@@ -1,7 +1,9 @@
 // What the tables say of a symbol: whether it is lawful and recommended, its bases and its primes. Columns are lent.
 // A symbol's letters have no part in it, so each contract holds whatever the label `s` is.
 use crate::SymbolAt;
+use crate::dimension_table::SLOTS;
 use crate::keys::has_notation;
+use crate::size_table::PRIMES;
 use crate::unit_table::UNITS;
 use label::Tens;
 ghost use mathlib.Core.Path.{_≡_};
@@ -84,7 +86,7 @@ pub fn slot_base(bases: &[u8], x: SymbolAt, slot: usize) -> u8
     requires { ⌜ (now bases ≡ unit-bases) × (slot < 4) ⌝ }
     ensures { λ r. ⌜ ((s : List ℕ) → r ≡ slot-in slot (symbol-in s x) .base) ⌝ }
 {
-    element(bases, row(x) * 4 + slot)
+    element(bases, row(x) * SLOTS + slot)
 }
 
 // The power of that base.
@@ -92,7 +94,7 @@ pub fn slot_power(powers: &[i8], x: SymbolAt, slot: usize) -> i32
     requires { ⌜ (now powers ≡ unit-powers) × (slot < 4) ⌝ }
     ensures { λ r. ⌜ ((s : List ℕ) → r ≡ slot-in slot (symbol-in s x) .power) ⌝ }
 {
-    signed_element(powers, row(x) * 4 + slot)
+    signed_element(powers, row(x) * SLOTS + slot)
 }
 
 // The power of ten of the prefix at that place. No prefix is 10 to the 0.
@@ -125,6 +127,6 @@ pub fn prime_power(powers: &[i8], primes: &[i8], x: SymbolAt, prime: usize) -> i
     ensures { λ r. ⌜ ((s : List ℕ) → r ≡ prime-in (prime-at prime) (symbol-in s x)) ⌝ }
 {
     let tens = prefix_prime(powers, x.prefix, prime);
-    let size = signed_element(primes, row(x) * 4 + prime);
+    let size = signed_element(primes, row(x) * PRIMES + prime);
     tens + size
 }

@@ -4,8 +4,11 @@ use crate::unit_table::UNITS;
 ghost use mathlib.Core.Path.{_≡_};
 ghost use Rattle.symbols.specs.Columns.{unit-primes};
 
+// How many primes a size is made of: 2, 3, 5 and 487.
+pub const PRIMES: usize = 4;
+
 // The exponents of 2, 3, 5 and 487 in each unit's size.
-const UNIT_PRIMES: [i8; UNITS * 4] = [
+const UNIT_PRIMES: [i8; UNITS * PRIMES] = [
     0, // m
     0,
     0,
@@ -252,7 +255,7 @@ const UNIT_PRIMES: [i8; UNITS * 4] = [
     0,
 ];
 
-pub fn unit_primes() -> [i8; UNITS * 4]
+pub fn unit_primes() -> [i8; UNITS * PRIMES]
     ensures { λ r. ⌜ r ≡ unit-primes ⌝ }
 {
     UNIT_PRIMES

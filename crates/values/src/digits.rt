@@ -1,5 +1,6 @@
 // Runs of digits: whether a run is short, and the number that a short run writes.
 use label::DigitRange;
+use label::MOST_DIGITS;
 ghost use mathlib.Core.Path.{_≡_};
 ghost use mathlib.Core.Bool.{_&&_};
 ghost use Prim.Native.Nat.{_+_, _*_, _-_, _<_, _≤_};
@@ -16,7 +17,7 @@ pub fn is_short(d: DigitRange) -> bool
 {
     let start = d.start;
     let end = d.end;
-    end - start <= 4
+    end - start <= MOST_DIGITS
 }
 
 // Whether two runs have at most four digits each.

@@ -92,7 +92,7 @@ static void check_name(uint64_t key, unsigned code) {
     int row = (int)(code & 255);
     unsigned notations = code >> 8 & 255;
     const struct constant *c = find(units, UNIT_NAMES, key);
-    check(c != NULL, "a name of the tables that this test lacks", "see name_table.rt");
+    check(c != NULL, "a name of the tables that this test lacks", "see unit_table.rt");
     if (!c)
         return;
     check(strlen(c->symbol) == code >> 16, "the length of a name", c->symbol);

@@ -1,7 +1,7 @@
 #!/bin/sh
 # The header's constants and the command's words, against the tables of the proved code and against the library.
 set -eu
-awk -f tests/tables.awk crates/symbols/src/name_table.rt crates/symbols/src/prefix_table.rt >build/tests/tables
+awk -f tests/tables.awk crates/symbols/src/unit_table.rt crates/symbols/src/prefix_table.rt >build/tests/tables
 build/tests/header <build/tests/tables
 # the header alone, as strict C11 and, where a C++ compiler is there, as C++11
 printf '#include "thalinguze.h"\n' >build/tests/alone.c

@@ -24,7 +24,7 @@ use Rattle.label.proofs.Basics.{false-true}
 use Rattle.label.proofs.Refusals.{units-values, values-length}
 use Rattle.values.specs.declared.factors.MaybeTens.{MaybeTens}
 use Rattle.values.specs.Given.{given}
-use Rattle.descent.specs.declared.whole.LabelRead.{LabelRead}
+use Rattle.descent.specs.declared.whole_label.LabelRead.{LabelRead}
 use Rattle.descent.specs.Terms.{Lent, count, broken, missing, HoldsUnits}
 use Rattle.descent.specs.Labels.{parsed-by, ReadsLabel}
 use Rattle.notations.proofs.Numbers.{in-range}

@@ -3,7 +3,7 @@ use crate::bytes::all_admitted;
 use descent::terms::BROKEN;
 use descent::terms::COUNT;
 use descent::terms::PLACES;
-use descent::whole::read_label;
+use descent::whole_label::read_label;
 use label::MOST_BRACKETS;
 use label::MOST_BYTES;
 use label::MOST_TERMS;

@@ -1,5 +1,5 @@
 // What converting answers.
-use crate::powers::LARGEST;
+use crate::prime_powers::LARGEST;
 use label::Tens;
 ghost use mathlib.Core.Path.{_≡_};
 ghost use Rattle.label.specs.Conversion.{refuse-conversion, unless, small};

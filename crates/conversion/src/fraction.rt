@@ -5,7 +5,7 @@ use crate::exponents::below;
 use crate::exponents::difference;
 use crate::exponents::is_whole;
 use crate::exponents::ones;
-use crate::powers::product;
+use crate::prime_powers::product;
 use label::Tens;
 use scan::class::both;
 ghost use mathlib.Core.Path.{_≡_};

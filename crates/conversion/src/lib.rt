@@ -3,5 +3,5 @@ pub mod answer;
 pub mod convert;
 pub mod exponents;
 pub mod fraction;
-pub mod powers;
-pub mod sums;
+pub mod prime_powers;
+pub mod two_labels;

@@ -13,8 +13,8 @@ use Rattle.label.specs.Bytes.{space, slash}
 use Rattle.label.specs.Choice.{pick}
 use Rattle.label.specs.Parse.{stop, times, padded, spaced, joint-at, joint, leading-at, leading}
 use Rattle.label.proofs.Basics.{false-true}
-use Rattle.scan.specs.Runs.{Run, is-space}
 use Rattle.label.proofs.Between.{here, beyond}
+use Rattle.scan.specs.Runs.{Run, is-space}
 use Rattle.tokens.proofs.Readers.{by-byte}
 use Rattle.descent.specs.declared.joint.JointAt.{JointAt}
 use Rattle.descent.specs.Joints.{separates, Pads, Joins, SpacesJoin, Leads, slashed, Slashes}

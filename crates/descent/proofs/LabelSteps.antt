@@ -17,12 +17,12 @@ use Rattle.label.specs.Parse.{Found, none, found, factor, Parsed, refused, pars
 use Rattle.label.specs.Ranges.{factor-in, FactorInside}
 use Rattle.label.proofs.Basics.{false-true}
 use Rattle.label.proofs.Complete.{rank-most}
-use Rattle.scan.specs.Runs.{Run, is-space}
 use Rattle.label.proofs.Between.{here, beyond}
+use Rattle.scan.specs.Runs.{Run, is-space}
 use Rattle.tokens.specs.declared.factor.FactorAt.{FactorAt}
 use Rattle.tokens.specs.Answers.{ReadsFactor}
 use Rattle.tokens.proofs.Readers.{by-byte, byte-found, byte-is}
-use Rattle.descent.specs.declared.whole.LabelRead.{LabelRead}
+use Rattle.descent.specs.declared.whole_label.LabelRead.{LabelRead}
 use Rattle.descent.specs.Terms.{Lent, NoTerms}
 use Rattle.descent.specs.Steps.{Ready, Stepped}
 use Rattle.descent.specs.Labels.{OneSpace, Gaps, no-label, EndsLabel, Tells, ReadsFactored, ReadsLabel}

@@ -10,7 +10,7 @@ use Rattle.label.specs.declared.WrittenFactor.the-variants.{Absent}
 use Rattle.label.specs.Lexical.{Factor, Part, quotient}
 use Rattle.label.specs.Parse.{Found, none, found, factor, Parsed, refused, parsed, ended, one-space, gap, factored, fuel, read, parse-by}
 use Rattle.label.specs.Ranges.{factor-in, FactorInside}
-use Rattle.descent.specs.declared.whole.LabelRead.{LabelRead}
+use Rattle.descent.specs.declared.whole_label.LabelRead.{LabelRead}
 use Rattle.descent.specs.Terms.{Lent, HoldsUnits}
 
 pub record OneSpace (s : List ℕ) (at o : ℕ) : Type 0 where

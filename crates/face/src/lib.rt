@@ -1,5 +1,5 @@
 // What a C program calls.
-pub mod convert;
+pub mod conversion_record;
 
 use content::named::NAME_PLACES;
 use content::sums::SUMS;

@@ -1,7 +1,7 @@
 // An input that comes in chunks: what is kept of an unfinished line between two chunks, and the answers to the lines that end.
-use crate::answer::MOST_ANSWER;
-use crate::answer::MOST_LINE;
-use crate::answer::answer_line;
+use crate::line::MOST_ANSWER;
+use crate::line::MOST_LINE;
+use crate::line::answer_line;
 ghost use Prim.Native.Nat.{_<_};
 ghost use mathlib.Core.Path.{_≡_};
 ghost use mathlib.Core.List.{[], _∷_};

@@ -1,4 +1,4 @@
 // The line program's work on byte slices: the answer to a line, and the answers to an input that comes in chunks.
-pub mod answer;
 pub mod input;
-mod numbers;
+pub mod line;
+mod number_text;

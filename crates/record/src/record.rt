@@ -1,11 +1,11 @@
 // The record of a reading.
+use crate::field_bytes::FIELD_SIZE;
+use crate::field_bytes::clear;
+use crate::field_bytes::put_all;
 use crate::fields::HEAD_FIELDS;
 use crate::fields::TERM_FIELDS;
 use crate::fields::head_fields;
 use crate::fields::term_fields;
-use crate::numbers::FIELD_SIZE;
-use crate::numbers::clear;
-use crate::numbers::put_all;
 use content::named::NAME_PLACES;
 use content::sums::SUMS;
 use descent::terms::COUNT;

@@ -34,7 +34,7 @@ use Rattle.symbols.proofs.NameLaws as laws
 use Rattle.symbols.proofs.PrefixLaws as prefix-laws
 use Rattle.rewriting.specs.declared.name.NameRange.{NameRange}
 use Rattle.rewriting.specs.declared.name.Own.{Own}
-use Rattle.rewriting.specs.Letters.{letters-of}
+use Rattle.rewriting.specs.Letters.{letters-of, most-in-prefix}
 use Rattle.rewriting.specs.Names.{entry, is-named, entry-name, names-in, name-at, places-from, first-places, InTable, NamesOf, OwnOf}
 use Rattle.rewriting.specs.Units.{PrefixCode}
 
@@ -45,7 +45,7 @@ entry-is i = refl
 -- LETTERS FROM KEYS
 
 spelt : Entry → Bool
-spelt x = same (letters-of 8 (key-of (x .letters))) (x .letters) && leb (length (x .letters)) 8
+spelt x = same (letters-of most-letters (key-of (x .letters))) (x .letters) && leb (length (x .letters)) 8
 
 names-spelt : T (every spelt names)
 unfolding every spelt letters-of columns-compute
@@ -59,16 +59,16 @@ entry-spelt : (i : ℕ) → T (spelt (laws.entry i))
 unfolding laws.entry
 entry-spelt i = every-at spelt names laws.nobody names-spelt nobody-spelt i
 
-pub name-letters : (i : ℕ) → letters-of 8 (getD name-keys i 0) ≡ entry i .letters
+pub name-letters : (i : ℕ) → letters-of most-letters (getD name-keys i 0) ≡ entry i .letters
 unfolding spelt
 name-letters i =
-    let w = both (same (letters-of 8 (key-of (laws.entry i .letters))) (laws.entry i .letters)) _ (entry-spelt i) in
+    let w = both (same (letters-of most-letters (key-of (laws.entry i .letters))) (laws.entry i .letters)) _ (entry-spelt i) in
     rw (laws.key-at i) (same-is _ _ (T→true _ (w .0)) ∙ ap (λ (x : Entry). x .letters) (entry-is i))
 
 name-short : (i : ℕ) → length (entry i .letters) ≤ 8
 unfolding spelt
 name-short i =
-    let w = both (same (letters-of 8 (key-of (laws.entry i .letters))) (laws.entry i .letters)) _ (entry-spelt i) in
+    let w = both (same (letters-of most-letters (key-of (laws.entry i .letters))) (laws.entry i .letters)) _ (entry-spelt i) in
     rw (← entry-is i) (leb→le _ 8 (w .1))
 
 -- OWN NAMES
@@ -286,7 +286,7 @@ no-unit-names u h = record {
 -- PREFIXES
 
 prefix-spelt : Prefix → Bool
-prefix-spelt p = same (letters-of 2 (key-of (p .name))) (p .name) && leb (length (p .name)) 2
+prefix-spelt p = same (letters-of most-in-prefix (key-of (p .name))) (p .name) && leb (length (p .name)) 2
 
 prefixes-spelt : T (every prefix-spelt prefixes)
 unfolding every prefix-spelt letters-of columns-compute
@@ -308,7 +308,7 @@ module _ (i : ℕ) where
   code-of : PrefixCode (suc i) (getD prefix-codes i 0)
   unfolding prefix-spelt place
   code-of =
-      let w = both (same (letters-of 2 (key-of (prefix-laws.entry i .name))) (prefix-laws.entry i .name)) _ here-spelt in
+      let w = both (same (letters-of most-in-prefix (key-of (prefix-laws.entry i .name))) (prefix-laws.entry i .name)) _ here-spelt in
       rw (prefix-laws.code-at i) (record {
         size = prefix-laws.code-length i ∙ ap length (sym letters-are);
         letters = rw (prefix-laws.code-key i) (same-is _ _ (T→true _ (w .0)) ∙ sym letters-are);

@@ -18,15 +18,17 @@ use Rattle.label.specs.Units.{Name, unit-at}
 use Rattle.label.specs.Letters.{prefix-letters}
 use Rattle.label.specs.Writing.{same-prefix, same-symbol, reads-as, name-in, named-text, in-quotes, unknown-text, symbol-text, both-texts}
 use Rattle.label.specs.Rows.{Style}
+use Rattle.label.proofs.Between.{length-between}
+use Rattle.label.specs.Limits.{most-bytes}
 use Rattle.symbols.specs.declared.SymbolAt.{SymbolAt}
 use Rattle.symbols.specs.Columns.{name-keys}
 use Rattle.symbols.specs.Views.{place, symbol-in}
-use Rattle.label.proofs.Between.{length-between}
+use Rattle.symbols.specs.Keys.{most-letters}
 use Rattle.rewriting.specs.declared.form.UnitForm.{UnitForm}
 use Rattle.rewriting.specs.declared.name.NameRange.{NameRange}
 use Rattle.rewriting.specs.declared.unit.SourceTerm.{SourceTerm}
 use Rattle.rewriting.specs.Texts.{text-room, HoldsText, WritesText}
-use Rattle.rewriting.specs.Letters.{letters-of}
+use Rattle.rewriting.specs.Letters.{letters-of, most-in-prefix}
 use Rattle.rewriting.specs.Names.{name-at, names-in, NamesOf, OwnOf}
 use Rattle.rewriting.specs.Forms.{no-form, text-by, form-text, FormIn}
 use Rattle.rewriting.specs.Units.{PrefixCode, LettersInside, Owns, plain-text, PlainOf}
@@ -134,7 +136,7 @@ module _ (y : Style) (m : ℕ) (own s : List ℕ) (x : SymbolAt) where
 
 -- NAMES BY THEIR PLACES
 
-name-some : (name : ℕ) → (name ≡ 0 → ⊥) → {ks : List ℕ} → ks ≡ name-keys → name-at name ≡ some (letters-of 8 (getD ks (name - 1) 0))
+name-some : (name : ℕ) → (name ≡ 0 → ⊥) → {ks : List ℕ} → ks ≡ name-keys → name-at name ≡ some (letters-of most-letters (getD ks (name - 1) 0))
 unfolding name-at
 name-some zero h e = absurd (h refl)
 name-some (suc i) h e = let q : suc i - 1 ≡ i = omega arith in rw (e, q, name-letters i)
@@ -174,7 +176,7 @@ module _ (m : ℕ) (r : SourceTerm) {x : NameRange} (name : ℕ) (q : r .unit .k
       → PlainOf m r (record { kind = 1; prefix = code % 65536; name = getD ks (name - 1) 0; start = 0; end = 0 })
   unfolding form-text text-by plain-text both-texts
   plain-named {ks = ks} w h e = record {
-    text = λ own o s. rw (q, takes own o, name-some name h e, w .letters, between-empty s (letters-of 8 (getD ks (name - 1) 0)));
+    text = λ own o s. rw (q, takes own o, name-some name h e, w .letters, between-empty s (letters-of most-letters (getD ks (name - 1) 0)));
     kind = omega arith;
     known = λ _. (refl, refl);
     unknown = λ z. absurd (false-true (sym z ∙ q));
@@ -196,24 +198,24 @@ module _ {m : ℕ} {s : List ℕ} {r : SourceTerm} {f : UnitForm} (w : PlainOf m
       go false q = let u = w .unknown q in record { forward = omega (arith, u .start, u .end, v .forward q); within = omega (arith, u .end, v .within q) }
 
   -- it is short enough for the array
-  plain-short : length s ≤ 255 → length (letters-of 2 (f .prefix) ++ (letters-of 8 (f .name) ++ between s (f .start) (f .end))) ≤ text-room
+  plain-short : length s ≤ most-bytes → length (letters-of most-in-prefix (f .prefix) ++ (letters-of most-letters (f .name) ++ between s (f .start) (f .end))) ≤ text-room
   unfolding letters-of
   plain-short h = go (r .unit .known) refl
     where
       part : length (between s (f .start) (f .end)) ≡ f .end - f .start
       part = length-between s (f .start) (f .end) (plain-in .within)
 
-      go : (b : Bool) → r .unit .known ≡ b → length (letters-of 2 (f .prefix) ++ (letters-of 8 (f .name) ++ between s (f .start) (f .end))) ≤ text-room
+      go : (b : Bool) → r .unit .known ≡ b → length (letters-of most-in-prefix (f .prefix) ++ (letters-of most-letters (f .name) ++ between s (f .start) (f .end))) ≤ text-room
       go true q =
           rw (length-append, length-append) (omega (arith, letters-most 2 (f .prefix), letters-most 8 (f .name), part, w .known q .0, w .known q .1))
       go false q = rw (length-append, length-append, w .unknown q .name) (omega (arith, letters-most 2 (f .prefix), part, plain-in .within))
 
   -- it has one
-  plain-some : (f .kind ≡ 0 → ⊥) → form-text s f ≡ some (letters-of 2 (f .prefix) ++ (letters-of 8 (f .name) ++ between s (f .start) (f .end)))
+  plain-some : (f .kind ≡ 0 → ⊥) → form-text s f ≡ some (letters-of most-in-prefix (f .prefix) ++ (letters-of most-letters (f .name) ++ between s (f .start) (f .end)))
   unfolding form-text text-by
   plain-some k = let e : f .kind ≡ 1 = omega (arith, w .kind) in rw e
 
-  pub plain-held : length s ≤ 255 → (f .kind ≡ 0 → ⊥) → {z b : List ℕ} {end : ℕ} → WritesText z 0 (form-text s f) b end → UnquotedText b end (form-text s f)
+  pub plain-held : length s ≤ most-bytes → (f .kind ≡ 0 → ⊥) → {z b : List ℕ} {end : ℕ} → WritesText z 0 (form-text s f) b end → UnquotedText b end (form-text s f)
   plain-held h k {b = b} {end = end} d = go (rw (both-start (form-text s f)) at (d .adds (some []) (HoldsText.short [] refl refl (omega arith) refl)))
     where
       go : HoldsText b end (form-text s f) → UnquotedText b end (form-text s f)

@@ -7,8 +7,9 @@ use Rattle.label.specs.declared.Exponent.{Exponent}
 use Rattle.label.specs.Ranges.{between}
 use Rattle.label.specs.Writing.{in-quotes, exponent-text, both-texts}
 use Rattle.label.specs.Rows.{Style}
+use Rattle.symbols.specs.Keys.{most-letters}
 use Rattle.rewriting.specs.declared.form.UnitForm.{UnitForm}
-use Rattle.rewriting.specs.Letters.{letters-of}
+use Rattle.rewriting.specs.Letters.{letters-of, most-in-prefix}
 
 abbrev pub no-form : UnitForm
 no-form = record { kind = 0; prefix = 0; name = 0; start = 0; end = 0 }
@@ -21,7 +22,7 @@ text-by (suc (suc k)) p l = some (p ++ in-quotes l)
 
 -- a unit of the label s in its form
 unfoldable pub form-text : List ℕ → UnitForm → Option (List ℕ)
-form-text s f = text-by (f .kind) (letters-of 2 (f .prefix)) (letters-of 8 (f .name) ++ between s (f .start) (f .end))
+form-text s f = text-by (f .kind) (letters-of most-in-prefix (f .prefix)) (letters-of most-letters (f .name) ++ between s (f .start) (f .end))
 
 -- the letters lie in the label s
 pub record FormIn (s : List ℕ) (f : UnitForm) : Type 0 where

@@ -8,3 +8,7 @@ use lib.Dec.{eqb}
 unfoldable pub letters-of : ℕ → ℕ → List ℕ
 letters-of zero k = []
 letters-of (suc f) k = elim (eqb k 0) [ true ↦ [] | false ↦ letters-of f (k / 256) ++ (k % 256 ∷ []) ]
+
+-- a prefix has at most so many letters
+abbrev pub most-in-prefix : ℕ
+most-in-prefix = 2

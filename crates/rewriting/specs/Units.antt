@@ -17,14 +17,14 @@ use Rattle.descent.specs.Terms.{start-at, end-at, count-in}
 use Rattle.content.specs.Views.{symbol-at, unit-in, letters-at, letters-end}
 use Rattle.rewriting.specs.declared.form.UnitForm.{UnitForm}
 use Rattle.rewriting.specs.declared.unit.SourceTerm.{SourceTerm}
-use Rattle.rewriting.specs.Letters.{letters-of}
+use Rattle.rewriting.specs.Letters.{letters-of, most-in-prefix}
 use Rattle.rewriting.specs.Names.{OwnOf}
 use Rattle.rewriting.specs.Forms.{form-text}
 
 -- the code of a prefix: how many letters it has, and below that their key
 pub record PrefixCode (prefix code : ℕ) : Type 0 where
   pub size : code / 65536 ≡ length (prefix-letters (place prefix))
-  pub letters : letters-of 2 (code % 65536) ≡ prefix-letters (place prefix)
+  pub letters : letters-of most-in-prefix (code % 65536) ≡ prefix-letters (place prefix)
   pub few : code / 65536 ≤ 2
 
 -- the letters of an unknown unit lie in the label s
@@ -43,7 +43,7 @@ plain-text m own s x =
 
 -- f has the prefix and the letters of the unknown unit x
 pub record LetteredForm (x : SymbolAt) (f : UnitForm) : Type 0 where
-  pub prefix : letters-of 2 (f .prefix) ≡ prefix-letters (place (x .prefix))
+  pub prefix : letters-of most-in-prefix (f .prefix) ≡ prefix-letters (place (x .prefix))
   pub name : f .name ≡ 0
   pub start : f .start ≡ x .start
   pub end : f .end ≡ x .end

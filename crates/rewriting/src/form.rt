@@ -10,6 +10,7 @@ ghost use mathlib.Core.List.{_++_};
 ghost use mathlib.Core.Option.{some};
 ghost use lib.ListN.{length};
 ghost use Rattle.label.specs.Ranges.{between};
+ghost use Rattle.symbols.specs.Keys.{most-letters};
 ghost use Rattle.rewriting.specs.Texts.{text-room, WritesText};
 ghost use Rattle.rewriting.specs.Letters.{letters-of};
 ghost use Rattle.rewriting.specs.Forms.{form-text, FormIn};
@@ -39,7 +40,7 @@ pub struct UnitForm {
 // Writes a name, or the letters of an unknown unit of the label `s`.
 fn push_letters(text: &mut [u8; ROOM], at: usize, s: &[u8], form: UnitForm) -> usize
     requires { ⌜ (length (now text) ≡ text-room) × FormIn (now s) form ⌝ }
-    ensures { λ r. ⌜ WritesText (now (text .entry)) at (some (letters-of 8 (form .name) ++ between (now (s .entry)) (form .start) (form .end))) (now (text .exit)) r ⌝ }
+    ensures { λ r. ⌜ WritesText (now (text .entry)) at (some (letters-of most-letters (form .name) ++ between (now (s .entry)) (form .start) (form .end))) (now (text .exit)) r ⌝ }
 {
     let rest = push_key(text, at, NAME_LETTERS, form.name);
     append(text, rest, s, form.start, form.end)

@@ -1,8 +1,8 @@
 // What rewriting a label answers, and what the lent buffer holds then.
+use crate::label_text::Target;
+use crate::label_text::push_label;
 use crate::text::FORMLESS;
 use crate::text::ROOM;
-use crate::whole::Target;
-use crate::whole::push_label;
 use content::named::NAME_PLACES;
 use content::sums::SUMS;
 use descent::terms::PLACES;

@@ -10,8 +10,8 @@ use lib.ListN.{length, drop, getD}
 use borrow.Author.Tests.{le-leb, lt-leb, eq-eqb, ne-eqb}
 use Rattle.label.specs.Bytes.{within, run as run-of, past}
 use Rattle.label.specs.Ranges.{between}
-use Rattle.scan.specs.Runs.{Run}
 use Rattle.label.proofs.Between.{here, beyond, length-between, between-none, between-more}
+use Rattle.scan.specs.Runs.{Run}
 
 -- the scan has passed from `at` to i, and what is left to scan is the same run's rest
 pub record Scanned (p : ℕ → Bool) (s : List ℕ) (at i : ℕ) : Type 0 where

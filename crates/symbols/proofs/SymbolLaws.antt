@@ -14,11 +14,11 @@ use Rattle.label.specs.Symbols.{longer, longest, by-longest, by-cut, by-whole, 
 use Rattle.label.specs.Bytes.{run}
 use Rattle.label.specs.Prefixes.{prefix-named}
 use Rattle.label.specs.Ranges.{between}
+use Rattle.label.proofs.Between.{between-none, between-cons, length-between, take-between, drop-between}
 use Rattle.symbols.specs.declared.PrefixCut.{PrefixCut}
 use Rattle.symbols.specs.declared.SymbolAt.{SymbolAt}
 use Rattle.symbols.specs.Views.{place, symbol-in, after-prefix, prefix-cut, unit-cut, BoundedSymbol, UpTo, LettersAt, CutAt, FirstPrefixed, FirstQuote}
 use Rattle.symbols.proofs.CutLaws.{cut-list, two-then-one}
-use Rattle.label.proofs.Between.{between-none, between-cons, length-between, take-between, drop-between}
 
 -- PLACES
 

@@ -3,7 +3,6 @@ pub mod dimension_table;
 pub mod groups;
 pub mod keys;
 pub mod lookup;
-pub mod name_table;
 pub mod prefix_table;
 pub mod properties;
 pub mod size_table;

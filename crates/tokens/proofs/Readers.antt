@@ -15,8 +15,8 @@ use Rattle.label.specs.Lexical.{Numeral}
 use Rattle.label.specs.Ranges.{numeral-in, Inside}
 use Rattle.label.specs.Parse.{Found, none, found, then, mapped, byte, closed}
 use Rattle.label.proofs.Basics.{and-left, and-right}
-use Rattle.scan.specs.Founds.{found-by}
 use Rattle.label.proofs.Between.{here, beyond, byte-inside, byte-outside}
+use Rattle.scan.specs.Founds.{found-by}
 use Rattle.tokens.specs.declared.number.IntegerAt.{IntegerAt}
 use Rattle.tokens.specs.Answers.{AnswerFields, ReadsBy, Wraps, ReadsInteger, begins}
 

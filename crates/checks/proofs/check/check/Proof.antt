@@ -3,6 +3,9 @@ use native.Mathlib.Omega.{arith}
 use Rattle.notations.proofs.Numbers.{is-a-notation, is-a-byte}
 use Rattle.checks.proofs.Checking.{check₁, check₂, check₃, check₄, check₅}
 use borrow.Author.Needs.{needs}
+use Rattle.descent.proofs.whole_label.read_label.Reads as read-label-reads
+use Rattle.notations.proofs.rows.is_notation.Reads as is-notation-reads
+use Rattle.notations.proofs.rows.rules.Reads as rules-reads
 use Rattle.checks.proofs.check.check.Statement.{statement}
 use Rattle.checks.proofs.check.check.Tie as tie
 use Rattle.checks.proofs.check.check.Reads as reads
@@ -10,9 +13,6 @@ use Rattle.checks.proofs.check.check.Lts as lts
 use Rattle.checks.proofs.bytes.all_admitted.Reads as all-admitted-reads
 use Rattle.checks.proofs.check.check_values.Reads as check-values-reads
 use Rattle.checks.proofs.check.rejected.Reads as rejected-reads
-use Rattle.notations.proofs.rows.is_notation.Reads as is-notation-reads
-use Rattle.notations.proofs.rows.rules.Reads as rules-reads
-use Rattle.descent.proofs.whole.read_label.Reads as read-label-reads
 
 is-notation-requires : tie.Need-is-notation-requires
 is-notation-requires c κs = search needs

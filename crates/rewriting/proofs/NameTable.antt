@@ -44,32 +44,38 @@ entry-is i = refl
 
 -- LETTERS FROM KEYS
 
+-- the letters l, at most n, come back from their key
+spells : ℕ → List ℕ → Bool
+spells n l = same (letters-of n (key-of l)) l && leb (length l) n
+
+spelled-back : (n : ℕ) (l : List ℕ) → T (spells n l) → letters-of n (key-of l) ≡ l
+unfolding spells
+spelled-back n l t = same-is _ _ (T→true _ (both (same (letters-of n (key-of l)) l) _ t .0))
+
+spelled-short : (n : ℕ) (l : List ℕ) → T (spells n l) → length l ≤ n
+unfolding spells
+spelled-short n l t = leb→le _ n (both (same (letters-of n (key-of l)) l) _ t .1)
+
 spelt : Entry → Bool
-spelt x = same (letters-of most-letters (key-of (x .letters))) (x .letters) && leb (length (x .letters)) 8
+spelt x = spells most-letters (x .letters)
 
 names-spelt : T (every spelt names)
-unfolding every spelt letters-of columns-compute
+unfolding every spelt spells letters-of columns-compute
 names-spelt = tt
 
 nobody-spelt : T (spelt laws.nobody)
-unfolding spelt letters-of laws.nobody columns-compute
+unfolding spelt spells letters-of laws.nobody columns-compute
 nobody-spelt = tt
 
-entry-spelt : (i : ℕ) → T (spelt (laws.entry i))
-unfolding laws.entry
+entry-spelt : (i : ℕ) → T (spells most-letters (laws.entry i .letters))
+unfolding spelt laws.entry
 entry-spelt i = every-at spelt names laws.nobody names-spelt nobody-spelt i
 
 pub name-letters : (i : ℕ) → letters-of most-letters (getD name-keys i 0) ≡ entry i .letters
-unfolding spelt
-name-letters i =
-    let w = both (same (letters-of most-letters (key-of (laws.entry i .letters))) (laws.entry i .letters)) _ (entry-spelt i) in
-    rw (laws.key-at i) (same-is _ _ (T→true _ (w .0)) ∙ ap (λ (x : Entry). x .letters) (entry-is i))
+name-letters i = rw (laws.key-at i) (spelled-back most-letters _ (entry-spelt i) ∙ ap (λ (x : Entry). x .letters) (entry-is i))
 
-name-short : (i : ℕ) → length (entry i .letters) ≤ 8
-unfolding spelt
-name-short i =
-    let w = both (same (letters-of most-letters (key-of (laws.entry i .letters))) (laws.entry i .letters)) _ (entry-spelt i) in
-    rw (← entry-is i) (leb→le _ 8 (w .1))
+name-short : (i : ℕ) → length (entry i .letters) ≤ most-letters
+name-short i = rw (← entry-is i) (spelled-short most-letters _ (entry-spelt i))
 
 -- OWN NAMES
 
@@ -286,19 +292,19 @@ no-unit-names u h = record {
 -- PREFIXES
 
 prefix-spelt : Prefix → Bool
-prefix-spelt p = same (letters-of most-in-prefix (key-of (p .name))) (p .name) && leb (length (p .name)) 2
+prefix-spelt p = spells most-in-prefix (p .name)
 
 prefixes-spelt : T (every prefix-spelt prefixes)
-unfolding every prefix-spelt letters-of columns-compute
+unfolding every prefix-spelt spells letters-of columns-compute
 prefixes-spelt = tt
 
 nothing-spelt : T (prefix-spelt prefix-laws.nothing)
-unfolding prefix-spelt letters-of prefix-laws.nothing columns-compute
+unfolding prefix-spelt spells letters-of prefix-laws.nothing columns-compute
 nothing-spelt = tt
 
 module _ (i : ℕ) where
-  here-spelt : T (prefix-spelt (prefix-laws.entry i))
-  unfolding prefix-laws.entry
+  here-spelt : T (spells most-in-prefix (prefix-laws.entry i .name))
+  unfolding prefix-spelt prefix-laws.entry
   here-spelt = every-at prefix-spelt prefixes prefix-laws.nothing prefixes-spelt nothing-spelt i
 
   letters-are : prefix-letters (some i) ≡ prefix-laws.entry i .name
@@ -306,14 +312,12 @@ module _ (i : ℕ) where
   letters-are = refl
 
   code-of : PrefixCode (suc i) (getD prefix-codes i 0)
-  unfolding prefix-spelt place
-  code-of =
-      let w = both (same (letters-of most-in-prefix (key-of (prefix-laws.entry i .name))) (prefix-laws.entry i .name)) _ here-spelt in
-      rw (prefix-laws.code-at i) (record {
-        size = prefix-laws.code-length i ∙ ap length (sym letters-are);
-        letters = rw (prefix-laws.code-key i) (same-is _ _ (T→true _ (w .0)) ∙ sym letters-are);
-        few = rw (prefix-laws.code-length i) (leb→le _ 2 (w .1));
-      })
+  unfolding place
+  code-of = rw (prefix-laws.code-at i) (record {
+    size = prefix-laws.code-length i ∙ ap length (sym letters-are);
+    letters = rw (prefix-laws.code-key i) (spelled-back most-in-prefix _ here-spelt ∙ sym letters-are);
+    few = rw (prefix-laws.code-length i) (spelled-short most-in-prefix _ here-spelt);
+  })
 
 -- the code in the column
 pub prefix-coded : (p : ℕ) → (p ≡ 0 → ⊥) → {cs : List ℕ} → cs ≡ prefix-codes → PrefixCode p (getD cs (p - 1) 0)

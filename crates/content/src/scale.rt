@@ -4,7 +4,7 @@ use crate::named::symbol_at;
 use crate::sums::add_power;
 use label::Exponent;
 use label::MOST_TERMS;
-use label::PARTS_OF_ONE;
+use label::SIXTIETHS;
 use label::Tens;
 use symbols::SymbolAt;
 use symbols::prefix_table::prefix_powers;
@@ -24,8 +24,6 @@ ghost use Rattle.symbols.specs.Views.{symbol-in};
 ghost use Rattle.descent.specs.Terms.{lent};
 ghost use Rattle.content.specs.Views.{terms-in, scale-in};
 ghost use Rattle.content.specs.Sums.{Summable, Added, zero-sums, prime-count};
-
-const SIXTIETHS: i64 = PARTS_OF_ONE as i64;
 
 // Adds a term to the sums: to the sum of each prime, the prime's power in the term's symbol times the term's exponent.
 fn add_primes(prefixes: &[i8], primes: &[i8], x: SymbolAt, e: Exponent, sums: &mut [i64])

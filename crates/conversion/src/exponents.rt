@@ -1,5 +1,6 @@
 // Exponents with a sign: their sizes, differences, and the ones in their sixtieths.
 use label::PARTS_OF_ONE;
+use label::SIXTIETHS;
 ghost use mathlib.Core.Path.{_≡_};
 ghost use Prim.Native.Nat.{_+_, _%_, _<_, _≤_, _^_};
 ghost use lib.IntN.{natAbs, _-ℤ_};
@@ -43,8 +44,6 @@ pub fn difference(a: i64, b: i64) -> i64
 {
     a - b
 }
-
-const SIXTIETHS: i64 = PARTS_OF_ONE as i64;
 
 // Whether so many sixtieths are ones.
 pub fn is_whole(z: i64) -> bool

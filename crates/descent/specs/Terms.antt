@@ -20,7 +20,7 @@ pub record Lent : Type 0 where
 abbrev pub lent : List ℕ → List ℤ → Lent
 lent p e = record { places = p; exponents = e }
 
--- the starts of the spellings, from here on their ends, how many terms there are, and a 1 where a power breaks its bound
+-- the array of places: the starts of the spellings, from here on their ends, how many terms there are, and a 1 where a power breaks its bound
 abbrev pub ends-from : ℕ
 ends-from = most-terms
 

@@ -1,4 +1,4 @@
-// Unit labels. The definitions of specs/ say what a label means; this file has the types that they share with the code.
+// Unit labels. The definitions of specs/ say what a label means; this file has the bounds and the types that they share with the code.
 
 // The most bytes and the most terms that a label may have (document 01, numbers that bound a label).
 pub const MOST_BYTES: usize = 255;
@@ -10,8 +10,10 @@ pub const MOST_DIGITS: usize = 4;
 
 pub const MOST_BRACKETS: usize = 8;
 
-// One is so many parts: exponents are counted in sixtieths.
+// One is so many sixtieths, in which exponents are counted: for sizes, and for signed numbers.
 pub const PARTS_OF_ONE: u64 = 60;
+
+pub const SIXTIETHS: i64 = PARTS_OF_ONE as i64;
 
 // An exponent, counted in sixtieths.
 pub struct Exponent(pub i32);

@@ -20,7 +20,7 @@ pub const MOST_ANSWER: usize = 767;
 // How many bytes a 0 between tabs has.
 const ZERO_SIZE: usize = 3;
 
-// The refusal of a line that is too long or has not three tabs.
+// The refusal of a line that is too long or does not have three tabs.
 const MALFORMED: u32 = 15;
 
 // Where the field that begins at `from` ends: at the next tab or at the line's end.

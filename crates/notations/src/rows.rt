@@ -70,7 +70,7 @@ fn has(n: u8, set: u8) -> bool
     has_notation(n, set)
 }
 
-fn fits() -> Rules
+fn fits_rules() -> Rules
     ensures { λ r. ⌜ r ≡ fits-rules ⌝ }
 {
     Rules {
@@ -94,7 +94,7 @@ fn fits() -> Rules
     }
 }
 
-fn ogip() -> Rules
+fn ogip_rules() -> Rules
     ensures { λ r. ⌜ r ≡ ogip-rules ⌝ }
 {
     Rules {
@@ -118,7 +118,7 @@ fn ogip() -> Rules
     }
 }
 
-fn cds() -> Rules
+fn cds_rules() -> Rules
     ensures { λ r. ⌜ r ≡ cds-rules ⌝ }
 {
     Rules {
@@ -142,7 +142,7 @@ fn cds() -> Rules
     }
 }
 
-fn vounits() -> Rules
+fn vounits_rules() -> Rules
     ensures { λ r. ⌜ r ≡ vounits-rules ⌝ }
 {
     Rules {
@@ -172,15 +172,15 @@ pub fn rules(n: u8) -> Rules
     ensures { λ r. ⌜ rules-of n ≡ some r ⌝ }
 {
     if n == 1 {
-        return fits();
+        return fits_rules();
     }
     if n == 2 {
-        return ogip();
+        return ogip_rules();
     }
     if n == 3 {
-        return cds();
+        return cds_rules();
     }
-    vounits()
+    vounits_rules()
 }
 
 fn joints() -> [u8; ROWS]

@@ -60,7 +60,7 @@ pub fn plain_factor(r: Rules, s: &[u8], start: usize, end: usize) -> FactorAt
 }
 
 // An integer as a power of ten.
-pub fn ten_to(i: IntegerAt) -> FactorAt
+pub fn as_tens(i: IntegerAt) -> FactorAt
     ensures { λ o. ⌜ AsTens i o ⌝ }
 {
     let n = i.integer;
@@ -102,7 +102,7 @@ pub fn wrapped(r: Rules, s: &[u8], at: usize) -> FactorAt
     if both(byte_at(s, at) == b'(', r.wrapped) {
         return closed_tens(s, integer(s, at + 1));
     }
-    ten_to(integer(s, at))
+    as_tens(integer(s, at))
 }
 
 // From after the first of two stars.
@@ -128,7 +128,7 @@ pub fn ten_factor(r: Rules, s: &[u8], start: usize, end: usize) -> FactorAt
 {
     let c = byte_at(s, end);
     if both(is_sign(c), r.signed) {
-        return ten_to(integer(s, end));
+        return as_tens(integer(s, end));
     }
     if both(c == b'^', r.caret) {
         return wrapped(r, s, end + 1);

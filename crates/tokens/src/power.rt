@@ -109,7 +109,7 @@ pub fn bracketed(s: &[u8], at: usize) -> PowerAt
 }
 
 // An integer as a power.
-pub fn whole(i: IntegerAt) -> PowerAt
+pub fn as_power(i: IntegerAt) -> PowerAt
     ensures { λ o. ⌜ AsPower i o ⌝ }
 {
     let n = i.integer;
@@ -129,7 +129,7 @@ pub fn power(s: &[u8], at: usize) -> PowerAt
     if byte_at(s, at) == b'(' {
         return bracketed(s, at + 1);
     }
-    whole(integer(s, at))
+    as_power(integer(s, at))
 }
 
 // Two stars and a power, or no power. A star is at `at`.
@@ -165,7 +165,7 @@ pub fn power_after(r: Rules, s: &[u8], at: usize) -> PowerAt
 {
     let c = byte_at(s, at);
     if both(starts_integer(c), r.direct) {
-        return whole(integer(s, at));
+        return as_power(integer(s, at));
     }
     if both(c == b'(', r.brackets) {
         return bracketed(s, at + 1);

@@ -7,28 +7,28 @@ use borrow.Author.Needs.{needs}
 use Rattle.notations.proofs.rows.rules.Statement.{statement}
 use Rattle.notations.proofs.rows.rules.Tie as tie
 
-fits-requires : tie.Need-fits-requires
+fits-requires : tie.Need-fits-rules-requires
 fits-requires c κs = search needs
 
 returns : tie.Need-returns
 unfolding rules-of value-among ruled
 returns c = rw (c .before .if1 .taken, c .fits2 .ensures)
 
-ogip-requires : tie.Need-ogip-requires
+ogip-requires : tie.Need-ogip-rules-requires
 ogip-requires c κs = search needs
 
 returns-2 : tie.Need-returns-2
 unfolding rules-of value-among ruled
-returns-2 c = rw (c .before .if2 .taken, c .ogip .ensures)
+returns-2 c = rw (c .before .if2 .taken, c .ogip-rules .ensures)
 
-cds-requires : tie.Need-cds-requires
+cds-requires : tie.Need-cds-rules-requires
 cds-requires c κs = search needs
 
 returns-3 : tie.Need-returns-3
 unfolding rules-of value-among ruled
-returns-3 c = rw (c .before .if3 .taken, c .cds .ensures)
+returns-3 c = rw (c .before .if3 .taken, c .cds-rules .ensures)
 
-vounits-requires : tie.Need-vounits-requires
+vounits-requires : tie.Need-vounits-rules-requires
 vounits-requires c κs = search needs
 
 returns-4 : tie.Need-returns-4
@@ -36,7 +36,7 @@ unfolding rules-of value-among ruled
 returns-4 c =
     let w = in-range _ (c .before .before .before .before .pre) in
     let e : c .before .before .before .before .args .n ≡ last = omega (arith, w .least, w .most, c .before .before .before .if1 .left, c .before .before .if2 .left, c .before .if3 .left) in
-    rw (e, c .vounits .ensures)
+    rw (e, c .vounits-rules .ensures)
 
 pub rules-spec : {M : Type 1} → statement M
 rules-spec =

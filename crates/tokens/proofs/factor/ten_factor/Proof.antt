@@ -21,13 +21,13 @@ both-requires c κs = search needs
 integer-requires : tie.Need-integer-requires
 integer-requires c κs = search needs
 
-tens-requires : tie.Need-ten-to-requires
+tens-requires : tie.Need-as-tens-requires
 tens-requires c κs = search needs
 
 returns : tie.Need-returns
 returns c =
     let a = c .before .before .before .before .before .before .before .args in
-    ten₁ (a .r) (a .s .now) (between (a .s .now) (a .start) (a .end)) (a .end) (byte-class sign (a .r .signed) (c .before .before .before .before .before .byte-at .ensures) (c .before .before .before .before .is-sign .ensures) (c .before .before .before .both .ensures) (c .before .before .if1 .taken)) (c .before .integer .ensures) (c .ten-to .ensures)
+    ten₁ (a .r) (a .s .now) (between (a .s .now) (a .start) (a .end)) (a .end) (byte-class sign (a .r .signed) (c .before .before .before .before .before .byte-at .ensures) (c .before .before .before .before .is-sign .ensures) (c .before .before .before .both .ensures) (c .before .before .if1 .taken)) (c .before .integer .ensures) (c .as-tens .ensures)
 
 both-requires-2 : tie.Need-both-requires-2
 both-requires-2 c κs = search needs

@@ -30,11 +30,11 @@ returns c = let a = c .before .before .before .before .before .before .args in w
 integer-requires-2 : tie.Need-integer-requires-2
 integer-requires-2 c κs = search needs
 
-tens-requires : tie.Need-ten-to-requires
+tens-requires : tie.Need-as-tens-requires
 tens-requires c κs = search needs
 
 returns-2 : tie.Need-returns-2
-returns-2 c = let a = c .before .before .before .before .before .before .args in wrapped₂ (a .r) (a .s .now) (a .at) (byte-and open-bracket (a .r .wrapped) (c .before .before .before .before .byte-at .ensures) (c .before .before .before .both .ensures) (c .before .before .if1 .left)) (c .before .integer2 .ensures) (c .ten-to .ensures)
+returns-2 c = let a = c .before .before .before .before .before .before .args in wrapped₂ (a .r) (a .s .now) (a .at) (byte-and open-bracket (a .r .wrapped) (c .before .before .before .before .byte-at .ensures) (c .before .before .before .both .ensures) (c .before .before .if1 .left)) (c .before .integer2 .ensures) (c .as-tens .ensures)
 
 pub wrapped-spec : {M : Type 1} → statement M
 wrapped-spec =

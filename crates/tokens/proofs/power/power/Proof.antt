@@ -24,11 +24,11 @@ returns c = let a = c .before .before .before .before .args in power₁ (a .s .n
 integer-requires : tie.Need-integer-requires
 integer-requires c κs = search needs
 
-whole-requires : tie.Need-whole-requires
+whole-requires : tie.Need-as-power-requires
 whole-requires c κs = search needs
 
 returns-2 : tie.Need-returns-2
-returns-2 c = let a = c .before .before .before .before .before .args in power₂ (a .s .now) (a .at) (byte-not (c .before .before .before .byte-at .ensures) (c .before .before .if1 .left)) (c .before .integer .ensures) (c .whole .ensures)
+returns-2 c = let a = c .before .before .before .before .before .args in power₂ (a .s .now) (a .at) (byte-not (c .before .before .before .byte-at .ensures) (c .before .before .if1 .left)) (c .before .integer .ensures) (c .as-power .ensures)
 
 pub power-spec : {M : Type 1} → statement M
 power-spec =

@@ -21,13 +21,13 @@ both-requires c κs = search needs
 integer-requires : tie.Need-integer-requires
 integer-requires c κs = search needs
 
-whole-requires : tie.Need-whole-requires
+whole-requires : tie.Need-as-power-requires
 whole-requires c κs = search needs
 
 returns : tie.Need-returns
 returns c =
     let a = c .before .before .before .before .before .before .before .args in
-    after₁ (a .r) (a .s .now) (a .at) (byte-class (λ x. sign x || digit x) (a .r .direct) (c .before .before .before .before .before .byte-at .ensures) (c .before .before .before .before .starts-integer .ensures) (c .before .before .before .both .ensures) (c .before .before .if1 .taken)) (c .before .integer .ensures) (c .whole .ensures)
+    after₁ (a .r) (a .s .now) (a .at) (byte-class (λ x. sign x || digit x) (a .r .direct) (c .before .before .before .before .before .byte-at .ensures) (c .before .before .before .before .starts-integer .ensures) (c .before .before .before .both .ensures) (c .before .before .if1 .taken)) (c .before .integer .ensures) (c .as-power .ensures)
 
 both-requires-2 : tie.Need-both-requires-2
 both-requires-2 c κs = search needs

@@ -12,7 +12,7 @@ fits-requires c κs = search needs
 
 returns : tie.Need-returns
 unfolding rules-of value-among ruled
-returns c = rw (c .before .if1 .taken, c .fits2 .ensures)
+returns c = rw (c .before .if1 .taken, c .fits-rules .ensures)
 
 ogip-requires : tie.Need-ogip-rules-requires
 ogip-requires c κs = search needs

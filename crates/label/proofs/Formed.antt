@@ -139,7 +139,7 @@ own-reads s t o d e q = rw (← q) (record { spelling = o .spells d; is = e })
 module _ {n : ℕ} {y : Style} (o : Suited n y) where
   owned-formed : {s : List ℕ} {x : Symbol} → SpellingBy (o .rules) s → symbol n s ≡ x → OwnedBy n s x → (t : List ℕ) × Form n (own-letters x s) x t
   unfolding own-letters
-  owned-formed {s} d e (OwnedBy.by-name {p = p} {u = u} r q f h) = (
+  owned-formed {s} d e (OwnedBy.by-name {p = p} {u = u} r q g f h) = (
     prefix-letters p ++ r,
     rw (q, drop-at (prefix-letters p) r (length (prefix-letters p)) refl)
         (Form.by-name {p = p} {u = u} {l = r} (TakesName.keeps (NameIn.named (unit-owned n r u f))) (own-reads s (prefix-letters p ++ r) (o .ruled) d e q)),

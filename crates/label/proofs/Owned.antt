@@ -86,7 +86,7 @@ same-prefix-is none (some j) e = absurd (false-true e)
 same-prefix-is (some i) none e = absurd (false-true e)
 same-prefix-is (some i) (some j) e = ap (λ (x : ℕ). some x) (eqb-true i j e)
 
-no-name : prefix-named [] ≡ none
+pub no-name : prefix-named [] ≡ none
 unfolding symbols-compute
 no-name = refl
 
@@ -138,7 +138,7 @@ all-cuts l = cuts-all letters-at l 0 prefixes prefixes-in-place (λ j. let q : 0
 
 -- what the letters of a spelling without quotes are
 pub data OwnedBy (n : ℕ) (s : List ℕ) : Symbol → Type 0 where
-  by-name : {p : Option ℕ} {u : ℕ} (r : List ℕ) → s ≡ prefix-letters p ++ r → unit-named n r ≡ some u → 1 ≤ length r → OwnedBy n s (known p u)
+  by-name : {p : Option ℕ} {u : ℕ} (r : List ℕ) → s ≡ prefix-letters p ++ r → prefix-named (prefix-letters p) ≡ p → unit-named n r ≡ some u → 1 ≤ length r → OwnedBy n s (known p u)
   by-letters : {p : Option ℕ} {l : List ℕ} → s ≡ prefix-letters p ++ l → prefix-named (prefix-letters p) ≡ p → 1 ≤ length l → OwnedBy n s (unknown p l)
 
 -- the longest cut is one
@@ -182,10 +182,10 @@ whole-owned n l h = go (unit-named n l) refl
 
     among : {xs : List KnownCut} → FirstKnown n l xs → OwnedBy n l (by-cut l xs)
     among FirstKnown.none-known = cutted (longest (cuts l)) refl
-    among (FirstKnown.first-known {x = x} d e) = OwnedBy.by-name {p = some (x .cut .prefix)} (x .cut .rest) (d .is) e (d .some-rest)
+    among (FirstKnown.first-known {x = x} d e) = OwnedBy.by-name {p = some (x .cut .prefix)} (x .cut .rest) (d .is) (d .named) e (d .some-rest)
 
     go : (o : Option ℕ) → unit-named n l ≡ o → OwnedBy n l (by-whole n l o)
-    go (some u) e = OwnedBy.by-name {p = none} l refl e h
+    go (some u) e = OwnedBy.by-name {p = none} l refl no-name e h
     go none e = among (known-first n l (all-cuts l))
 
 -- LETTERS
@@ -300,7 +300,7 @@ letters-owned n {s} d = unquoted-owned n s (letters-unquoted d) (letters-long d)
 
 owned-sourced : {n : ℕ} {s : List ℕ} {x : Symbol} → T (all letter s) → OwnedBy n s x → Sourced (own-letters x s) x
 unfolding own-letters
-owned-sourced {n} t (OwnedBy.by-name {p = p} {u = u} r e f h) =
+owned-sourced {n} t (OwnedBy.by-name {p = p} {u = u} r e g f h) =
     rw (e, drop-at (prefix-letters p) r (length (prefix-letters p)) refl)
     (Sourced.letter-name n (unit-owned n r u f) (all-letters r (all-right letter (prefix-letters p) r (rw e at t)) h))
 owned-sourced t (OwnedBy.by-letters {p = p} {l = l} e f h) = Sourced.no-unit-name (all-letters l (all-right letter (prefix-letters p) l (rw e at t)) h) f

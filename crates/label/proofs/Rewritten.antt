@@ -194,7 +194,7 @@ no-size : (z : ℤ) → natAbs z ≡ 0 → z ≡ pos 0
 no-size (pos n) e = ap pos e
 no-size (negsuc n) e = absurd (omega arith)
 
-no-tens : (k : Tens) → natAbs (k .0) ≡ 0 → k ≡ record { 0 = pos 0 }
+pub no-tens : (k : Tens) → natAbs (k .0) ≡ 0 → k ≡ record { 0 = pos 0 }
 no-tens k e = ap {B = Tens} (λ (x : ℤ). record { 0 = x }) (no-size (k .0) e)
 
 pub label-read : {y : Style} {r : Rules} {m : ℕ} → Suits y r → RuledBy m r → (k : Tens) {ws : List Writable} → AllReady ws → natAbs (k .0) ≤ largest-k → (ws ≡ [] → k ≡ record { 0 = pos 0 })

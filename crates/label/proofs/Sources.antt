@@ -48,11 +48,11 @@ some-number : {s : List ℕ} → Unsigned s → (u : List ℕ) → 1 ≤ number 
 unfolding number number-from
 some-number (Unsigned.unsigned {c = c} {s = s} t a) u = omega (arith, grows (0 * 10 + (c - 48)) (s ++ u), nonzero-bounds c t)
 
-just-number : {s : List ℕ} → Unsigned s → 1 ≤ number s
+pub just-number : {s : List ℕ} → Unsigned s → 1 ≤ number s
 unfolding number number-from
 just-number (Unsigned.unsigned {c = c} {s = s} t a) = omega (arith, grows (0 * 10 + (c - 48)) s, nonzero-bounds c t)
 
-integer-digits : {e : List ℕ} {n : Numeral} → Integer e n → Unsigned (n .digits)
+pub integer-digits : {e : List ℕ} {n : Numeral} → Integer e n → Unsigned (n .digits)
 integer-digits (Integer.signed (Signed.positive u)) = u
 integer-digits (Integer.signed (Signed.negative u)) = u
 integer-digits (Integer.plain u) = u
@@ -196,7 +196,7 @@ k-headed (LabelBy.factored l f w d) k h e = absurd (omega (arith, filled-length 
 
 -- THE SOURCE
 
-valued-k : (f : Factor) (ps : List Part) (v : Valued) → valued f ps ≡ some v → k-of f ≡ some (v .k)
+pub valued-k : (f : Factor) (ps : List Part) (v : Valued) → valued f ps ≡ some v → k-of f ≡ some (v .k)
 unfolding valued valued-with
 valued-k f ps v h = go (k-of f) (valued-units ps) refl h
   where

@@ -23,3 +23,4 @@ pub mod Samples
 pub mod Ranges
 pub mod Writing
 pub mod Lines
+pub mod Words

@@ -72,7 +72,7 @@ one-unknown (t ∷ ts) e = go (is-known (t .symbol)) refl (λ g. one-unknown ts 
 
 -- 9: DIMENSIONS
 
-same-whole-true : (x y : ℤ) → same-whole x y ≡ true → x ≡ y
+pub same-whole-true : (x y : ℤ) → same-whole x y ≡ true → x ≡ y
 same-whole-true (pos m) (pos n) e = ap pos (eqb-true m n e)
 same-whole-true (pos m) (negsuc n) e = absurd (false-true e)
 same-whole-true (negsuc m) (pos n) e = absurd (false-true e)

@@ -1,3 +1,6 @@
+pub mod SpokenSymbols
+pub mod SpokenSamples
+pub mod NameTests
 pub mod Sixtieths
 pub mod Lowest
 pub mod Coprime
@@ -12,4 +15,14 @@ pub mod Bounds
 pub mod Scales
 pub mod Sizings
 pub mod Lines
+pub mod WordSizes
+pub mod PowerSizes
+pub mod SymbolSizes
+pub mod LabelSizes
+pub mod Longest
+pub mod Speaking
+pub mod Heard
+pub mod Saying
+pub mod Sayable
+pub mod TellApart
 pub mod Proved

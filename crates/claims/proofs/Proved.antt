@@ -10,9 +10,11 @@ use Rattle.label.proofs.Sources.{rewriting-content, rewriting-again}
 use Rattle.label.proofs.Formed.{refusals-are-due, refuses-answered, never-twelve}
 use Rattle.label.proofs.Refusing.{fourteen-due, earlier-due}
 use Rattle.label.specs.Samples.{SamplesHold}
+use Rattle.claims.proofs.Longest as longest
+use Rattle.claims.proofs.NameTests as names
 use Rattle.claims.proofs.Lowest.{lowest}
 use Rattle.claims.proofs.Sixtieths.{whole-divides, divides-whole}
-use Rattle.claims.specs.Claims.{ParseIsTheGrammar, ParseRefusesTheRest, Unambiguous, RefusalsAreTheConditions, BoundsAreKept, RefusalsAreEmpty, ZeroIsAcceptance, AcceptedContent, ExponentsAsWritten, AnswersComeFromTheTerms, KnownVerdict, LawfulVerdict, RecommendedVerdict, DimensionsAreSums, ScaleIsASum, AtMostOneKnownRest, SixtiethsAreTheBound, ShownInLowestTerms, GrammarsAgree, NotationsAgree, RewrittenReadsAsTheSame, RewritingRefusals, RefusedRewritesAreEmpty, FourteenIsAShortBuffer, EarlierWhateverTheBuffer, OwnNotationHasForms, RewrittenOnceForAll, MalformedLines, OtherLines}
+use Rattle.claims.specs.Claims.{ParseIsTheGrammar, ParseRefusesTheRest, Unambiguous, RefusalsAreTheConditions, BoundsAreKept, RefusalsAreEmpty, ZeroIsAcceptance, AcceptedContent, ExponentsAsWritten, AnswersComeFromTheTerms, KnownVerdict, LawfulVerdict, RecommendedVerdict, DimensionsAreSums, ScaleIsASum, AtMostOneKnownRest, SixtiethsAreTheBound, ShownInLowestTerms, GrammarsAgree, NotationsAgree, RewrittenReadsAsTheSame, RewritingRefusals, RefusedRewritesAreEmpty, FourteenIsAShortBuffer, EarlierWhateverTheBuffer, OwnNotationHasForms, RewrittenOnceForAll, MalformedLines, OtherLines, NamesFit, NamesDiffer, NamesAreLetters, NamesForAll, WordsTellApart, PlainWords, WordsRefusals, FourteenIfTheWordsAreLonger, SevenOrFourteen, WordsWithZero, NoWordsWithOthers, WordsAreShort, LongestWordsAreMet, RoomForAllWords, WordSamples}
 use Rattle.claims.proofs.Conversions.{factor-once}
 use Rattle.claims.proofs.ConversionAnswers.{gives-converts, number-due, due-refused, zero-undue}
 use Rattle.claims.proofs.Inverses.{converts-itself, converts-inverse}
@@ -20,6 +22,9 @@ use Rattle.claims.proofs.Bounds as bounds
 use Rattle.claims.proofs.ConversionLimits as limits
 use Rattle.claims.proofs.Sizings as sizings
 use Rattle.claims.proofs.Lines as lines
+use Rattle.claims.proofs.SpokenSamples as spoken
+use Rattle.claims.proofs.TellApart as apart
+use Rattle.claims.proofs.Speaking as speaking
 use Rattle.claims.specs.Sizing.{SizesGiveTheFactor, FractionExactlyIf}
 use Rattle.claims.specs.Converting.{OneFactor, ConvertsExactlyIf, ConversionRefusals, RefusedConversions, ConversionSucceeds, ItselfByOne, BackByTheInverse, WithinLimits, ExponentsBounded, RatiosBounded}
 
@@ -151,3 +156,50 @@ malformed-lines s h = lines.malformed-lines s h
 
 pub other-lines : OtherLines
 other-lines s h e = lines.other-lines s h e
+
+-- WORDS
+
+pub names-fit-proved : NamesFit
+names-fit-proved = spoken.spoken-names-pass
+
+pub names-differ : NamesDiffer
+names-differ i j h g e = names.names-differ i j h g e
+
+pub names-are-letters : NamesAreLetters
+names-are-letters w h = names.names-are-letters w h
+
+pub names-for-all : NamesForAll
+names-for-all = names.names-for-all
+
+pub words-tell-apart : WordsTellApart
+words-tell-apart n m s t a b = apart.told-apart n m s t a b
+
+pub plain-words : PlainWords
+plain-words n s z w h = apart.plain-words n s z w h
+
+pub words-refusals : WordsRefusals
+words-refusals size n s i l h = speaking.refusals-of-reading size n s i l h
+
+pub fourteen-if-the-words-are-longer : FourteenIfTheWordsAreLonger
+fourteen-if-the-words-are-longer size n s = speaking.fourteen-if-longer size n s
+
+pub seven-or-fourteen : SevenOrFourteen
+seven-or-fourteen size n s = speaking.seven-or-fourteen size n s
+
+pub words-with-zero : WordsWithZero
+words-with-zero size n s z = speaking.words-with-zero size n s z
+
+pub no-words-with-others : NoWordsWithOthers
+no-words-with-others size n s h = speaking.no-words-with-others size n s h
+
+pub words-are-short : WordsAreShort
+words-are-short n s z = longest.spoken-short n s z
+
+pub longest-words-are-met : LongestWordsAreMet
+longest-words-are-met = (3, longest.longest-label, longest.longest-accepted, longest.longest-spoken)
+
+pub room-for-all-words : RoomForAllWords
+room-for-all-words size n s h = longest.never-short n s size h
+
+pub word-samples : WordSamples
+word-samples = spoken.word-samples

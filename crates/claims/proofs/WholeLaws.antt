@@ -33,7 +33,7 @@ is-whole (negsuc n) t = record { is = go (suc n / parts-of-one) (omega (arith, d
     go zero e = absurd (omega arith)
     go (suc x) e = ap (λ (y : ℕ). negℤ (pos y)) e
 
-unlike : (a x : ℕ) → 1 ≤ x → pos a ≡ negℤ (pos x) → ⊥
+pub unlike : (a x : ℕ) → 1 ≤ x → pos a ≡ negℤ (pos x) → ⊥
 unlike a zero h e = omega arith
 unlike a (suc x) h e = pos-ne-negsuc a x e
 

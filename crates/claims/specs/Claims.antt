@@ -1,17 +1,19 @@
 -- The page of claims. Each is stated here, in the words of the crate label's specs/, and proved in proofs/Proved.antt.
 use Prim.Native.Nat.{ℕ, suc, _≤_, _<_, _*_}
 use mathlib.Core.Path.{_≡_}
-use mathlib.Core.Bool.{true}
-use mathlib.Core.List.{List, [], _∷_}
+use mathlib.Core.Bool.{Bool, true, _||_}
+use mathlib.Core.List.{List, [], _∷_, _++_}
 use mathlib.Core.Option.{Option, some}
 use mathlib.Core.Logic.{_↔_, _⊎_}
-use lib.Dec.{eqb}
+use lib.Dec.{T, eqb}
 use lib.IntN.{ℤ, pos, _+ℤ_, _*ℤ_, natAbs}
-use lib.ListN.{length}
+use lib.ListN.{length, getD}
 use Rattle.label.specs.declared.Exponent.{Exponent}
-use Rattle.label.specs.Bytes.{bytes, tab}
+use Rattle.label.specs.Bytes.{bytes, tab, letter, digit, all}
 use Rattle.label.specs.Choice.{pick}
 use Rattle.label.specs.Notations.{notation}
+use Rattle.label.specs.Prefixes.{prefixes}
+use Rattle.label.specs.Units.{units}
 use Rattle.label.specs.Symbols.{known, known-cuts}
 use Rattle.label.specs.Lexical.{Factor, Part}
 use Rattle.label.specs.Grammar.{Derives}
@@ -23,6 +25,7 @@ use Rattle.label.specs.Agreement.{Gives}
 use Rattle.label.specs.Meaning.{_∈_, Prefixable, Named, unrecommended, Sum, BaseIn, dimension, PrimeIn, prime-in-ten, scale-exponent, Empty, AsWritten, PowerKeeps, FactorKeeps}
 use Rattle.label.specs.Writing.{rewriting, rewriting-into, Refuses, SameContent}
 use Rattle.label.specs.Lines.{fields, answer-fields, answer}
+use Rattle.label.specs.Words.{Word, spoken-prefixes, spoken-units, all-names, names-fit, words, spoken, most-spoken, speaking-into}
 
 -- DEMAND 2, READING
 
@@ -188,3 +191,81 @@ MalformedLines = (s : List ℕ) → (512 < length s) ⊎ (count-of tab s ≡ 3 �
 -- Any other line is answered by its four fields.
 abbrev pub OtherLines : Type 0
 OtherLines = (s : List ℕ) → length s ≤ 512 → count-of tab s ≡ 3 → (length (fields s) ≡ 4) × (answer s ≡ answer-fields (fields s))
+
+-- WORDS (document 02, W1)
+
+-- The names of prefixes and units pass the test of them, so: "All names differ, .. and none is .." a reserved word.
+abbrev pub NamesFit : Type 0
+NamesFit = T names-fit
+
+abbrev pub NamesDiffer : Type 0
+NamesDiffer = (i j : ℕ) → i < length all-names → j < length all-names → getD all-names i [] ≡ getD all-names j [] → i ≡ j
+
+-- "each is one word, of letters only"
+abbrev pub NamesAreLetters : Type 0
+NamesAreLetters = (w : Word) → w ∈ (spoken-prefixes ++ spoken-units) → (1 ≤ length w) × T (all letter w)
+
+-- "Each known unit and each prefix has one spoken name"
+abbrev pub NamesForAll : Type 0
+NamesForAll = (length spoken-prefixes ≡ length prefixes) × (length spoken-units ≡ length units)
+
+-- "Two accepted readings that differ in k, or in a term's prefix, unit or exponent, or in the terms' number or order, never give the same words;
+-- verdicts and the choice between two names of one unit aren't spoken."
+abbrev pub WordsTellApart : Type 0
+WordsTellApart =
+    (n m : ℕ) (s t : List ℕ)
+    → reading n s .number ≡ 0
+    → reading m t .number ≡ 0
+    → (spoken (reading n s) ≡ spoken (reading m t)) ↔ SameContent (reading n s) (reading m t)
+
+-- a letter or a digit
+unfoldable pub word-byte : ℕ → Bool
+word-byte c = letter c || digit c
+
+-- one or more letters and digits
+pub record PlainWord (w : Word) : Type 0 where
+  pub some : 1 ≤ length w
+  pub plain : T (all word-byte w)
+
+-- "ASCII words .. parted by single spaces": no word is empty or has a space.
+abbrev pub PlainWords : Type 0
+PlainWords = (n : ℕ) (s : List ℕ) → reading n s .number ≡ 0 → (w : Word) → w ∈ words (reading n s) → PlainWord w
+
+-- 1 to 7 are those of reading, whatever the buffer.
+abbrev pub WordsRefusals : Type 0
+WordsRefusals = (size n : ℕ) (s : List ℕ) (i : ℕ) → 1 ≤ i → i ≤ 7 → (speaking-into size n s .number ≡ i) ↔ Refused i n s
+
+-- "14 if the buffer is short"
+abbrev pub FourteenIfTheWordsAreLonger : Type 0
+FourteenIfTheWordsAreLonger =
+    (size n : ℕ) (s : List ℕ) → (speaking-into size n s .number ≡ 14) ↔ ((reading n s .number ≡ 0) × (size < length (spoken (reading n s))))
+
+-- No other number is given.
+abbrev pub SevenOrFourteen : Type 0
+SevenOrFourteen = (size n : ℕ) (s : List ℕ) → (speaking-into size n s .number ≤ 7) ⊎ (speaking-into size n s .number ≡ 14)
+
+-- With 0 go the words of an accepted reading, with any other number no bytes.
+abbrev pub WordsWithZero : Type 0
+WordsWithZero =
+    (size n : ℕ) (s : List ℕ)
+    → speaking-into size n s .number ≡ 0
+    → (reading n s .number ≡ 0) × (speaking-into size n s .text ≡ spoken (reading n s))
+
+abbrev pub NoWordsWithOthers : Type 0
+NoWordsWithOthers = (size n : ℕ) (s : List ℕ) → 1 ≤ speaking-into size n s .number → speaking-into size n s .text ≡ []
+
+-- No label has words of more than 1,476 bytes, and one has as many. A buffer of that size is never refused.
+abbrev pub WordsAreShort : Type 0
+WordsAreShort = (n : ℕ) (s : List ℕ) → reading n s .number ≡ 0 → length (spoken (reading n s)) ≤ most-spoken
+
+abbrev pub LongestWordsAreMet : Type 0
+LongestWordsAreMet = (n : ℕ) × (s : List ℕ) × (reading n s .number ≡ 0) × (length (spoken (reading n s)) ≡ most-spoken)
+
+abbrev pub RoomForAllWords : Type 0
+RoomForAllWords = (size n : ℕ) (s : List ℕ) → most-spoken ≤ size → speaking-into size n s .number ≡ reading n s .number
+
+-- Two labels and their words.
+abbrev pub WordSamples : Type 0
+WordSamples =
+    (spoken (reading 3 (bytes "kg/m.s")) ≡ bytes "kilo gram metre to the minus 1 second")
+    × (spoken (reading 1 (bytes "10-12 daX(-3/2)")) ≡ bytes "ten to the minus 12 deca unit X end to the minus 3 over 2")

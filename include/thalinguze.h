@@ -1,5 +1,5 @@
 /*
- * thalinguze.h: physics unit labels, read, rewritten in another notation and converted.
+ * thalinguze.h: physics unit labels, read, rewritten in another notation, converted and spoken.
  *
  * One call reads a label such as "kg/m.s" under one of four notations and writes what it means into a record of fixed layout:
  *
@@ -40,7 +40,7 @@ extern "C" {
 
 /* The version. The number is written in these three lines and nowhere else. */
 #define THALINGUZE_VERSION_MAJOR 0
-#define THALINGUZE_VERSION_MINOR 9
+#define THALINGUZE_VERSION_MINOR 10
 #define THALINGUZE_VERSION_PATCH 0
 
 /* The version as one number, 10203 for 1.2.3, and as text, "1.2.3". */
@@ -63,7 +63,8 @@ enum {
     THALINGUZE_VOUNITS = 4
 };
 
-/* What the calls return: 0, or the first of these that applies. Reading gives 1 to 7, converting 1 to 11, rewriting 1 to 7 and 12 to 14. */
+/* What the calls return: 0, or the first of these that applies. Reading gives 1 to 7, converting 1 to 11, rewriting 1 to 7 and 12 to 14,
+   words 1 to 7 and 14. */
 enum {
     THALINGUZE_ACCEPTED = 0,
     THALINGUZE_NO_SUCH_NOTATION = 1,  /* no notation has that number */
@@ -79,7 +80,7 @@ enum {
     THALINGUZE_FACTOR_OUT_OF_BOUNDS = 11, /* converting: the numerator, the denominator or k breaks its bound */
     THALINGUZE_NO_FORM = 12,          /* rewriting: a term or an exponent has no form in the target */
     THALINGUZE_RESULT_TOO_LONG = 13,  /* rewriting: the result is over THALINGUZE_MAX_LABEL_SIZE bytes */
-    THALINGUZE_BUFFER_TOO_SHORT = 14  /* rewriting: the lent buffer is shorter than the result */
+    THALINGUZE_BUFFER_TOO_SHORT = 14  /* rewriting and words: the lent buffer is shorter than the result */
 };
 
 /* Limits of an accepted label. */
@@ -378,7 +379,7 @@ static inline int64_t thalinguze_scale(const uint8_t *record, unsigned prime) {
 
 /* REWRITING */
 
-/* What rewriting answers: 0 and how many bytes the result has, or the number of a refusal and 0. */
+/* What rewriting and words answer: 0 and how many bytes the result has, or the number of a refusal and 0. */
 struct thalinguze_rewritten {
     uint32_t number;
     uint32_t length;
@@ -406,6 +407,37 @@ struct thalinguze_rewritten {
  */
 struct thalinguze_rewritten thalinguze_rewrite(uint32_t source, const uint8_t *label, size_t label_size, uint32_t target, uint8_t *buffer,
                                                size_t buffer_size);
+
+/* WORDS */
+
+/* No label has words of more bytes than this, and one has as many (which it is: docs/DECISIONS.md, D72). */
+#define THALINGUZE_MAX_WORDS_SIZE 1476
+
+/*
+ * Writes what is spoken of a label: English words, parted by single spaces.
+ *
+ *     const char *label = "kg/m.s";
+ *     uint8_t words[THALINGUZE_MAX_WORDS_SIZE];
+ *     struct thalinguze_rewritten r = thalinguze_words(THALINGUZE_CDS, (const uint8_t *)label, strlen(label), words, sizeof words);
+ *     if (r.number == THALINGUZE_ACCEPTED)
+ *         printf("%.*s\n", (int)r.length, (const char *)words);
+ *
+ * prints kilo gram metre to the minus 1 second. The words are "ten to the" and k where k is not 0, and for each term, in the order of the
+ * label, its prefix, its unit and, unless it is 1, its exponent: "to the 2", "to the minus 1 over 2". Numbers stay digits. An unknown unit
+ * is "unit", its letters one by one, and "end". The empty label has no words, and length 0. The words are not ended by a byte 0.
+ *
+ * Two labels, of one notation or of two, have the same words exactly if they have the same power of ten and the same prefixes, units and
+ * exponents in the same order.
+ *
+ * notation             the notation of the label, as for thalinguze_read.
+ * label, label_size    the label's bytes.
+ * buffer, buffer_size  where the words are written; THALINGUZE_MAX_WORDS_SIZE bytes hold those of every label. It does not overlap the label.
+ *
+ * The number is 0, or that of the first refusal that applies: 1 to 7 of the label, then 14. A refusal changes no byte of the buffer, and an
+ * accepted label changes only the bytes of its words.
+ */
+struct thalinguze_rewritten thalinguze_words(uint32_t notation, const uint8_t *label, size_t label_size, uint8_t *buffer,
+                                             size_t buffer_size);
 
 /* CONVERTING */
 

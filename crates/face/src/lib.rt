@@ -9,8 +9,10 @@ use reading::read::read;
 use record::buffer::write_record;
 use rewriting::rewrite::Rewritten;
 use rewriting::rewrite::rewrite;
+use words::speak::speak;
 ghost use mathlib.Core.Path.{_≡_};
 ghost use Rattle.label.specs.Reading.{reading};
+ghost use Rattle.label.specs.Words.{speaking-into};
 ghost use Rattle.label.specs.Writing.{rewriting-into, buffer-with};
 ghost use Rattle.rewriting.specs.Buffers.{AnswerIs};
 ghost use Rattle.record.specs.Record.{buffer-after};
@@ -55,4 +57,14 @@ pub extern "C" fn thalinguze_rewrite(
         ≡ buffer-with (rewriting-into (length (now (buffer .entry))) source (now (label .entry)) target) (now (buffer .entry)) ⌝ }
 {
     rewrite(source, label, target, buffer)
+}
+
+// Speaks the label of a notation and answers the number of the refusal, or 0 and how many bytes the words have. The words are at the start of
+// the lent buffer, parted by single spaces; a refusal changes no byte of it.
+#[no_mangle]
+pub extern "C" fn thalinguze_words(notation: u32, label: &[u8], buffer: &mut [u8]) -> Rewritten
+    ensures { λ r. ⌜ AnswerIs (speaking-into (length (now (buffer .entry))) notation (now (label .entry))) r ⌝ }
+    ensures { λ _. ⌜ now (buffer .exit) ≡ buffer-with (speaking-into (length (now (buffer .entry))) notation (now (label .entry))) (now (buffer .entry)) ⌝ }
+{
+    speak(notation, label, buffer)
 }

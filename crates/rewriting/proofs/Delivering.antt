@@ -35,7 +35,7 @@ use Rattle.rewriting.specs.Buffers.{AnswerIs}
 -- REFUSALS
 
 -- a refusal has no text, so it fits any buffer
-fitted-refusal : (size i : ℕ) → fitted size (refuse-rewriting i) ≡ refuse-rewriting i
+pub fitted-refusal : (size i : ℕ) → fitted size (refuse-rewriting i) ≡ refuse-rewriting i
 unfolding fitted unless
 fitted-refusal size i = rw (le-leb 0 size (omega arith))
 

@@ -41,19 +41,20 @@ module _ {x : List ℕ} {i : ℕ} {r : SymbolAt} (p : r .prefix ≡ prefix-at x 
   unfolding symbol-in symbol-at by-code
   known-at k e = record { is = λ s. rw (k, p, ← e); unknown = λ q. absurd (false-true (sym q ∙ k)); start = a; end = z }
 
-module _ {s p x : List ℕ} {i : ℕ} (w : TermOf s p x i) {u : SymbolAt} (v : SymbolFrom x i u) {code : ℕ} (c : PrefixCode (u .prefix) code) where
-  lettered : LettersInside s u
-  lettered = record {
-    forward = λ e. rw (v .start, v .end) (w .from (v .unknown e));
-    within = λ e. rw (v .end) (w .upto (v .unknown e));
-  }
+-- its letters, if it is unknown
+pub letters-inside : {s p x : List ℕ} {i : ℕ} {u : SymbolAt} → TermOf s p x i → SymbolFrom x i u → LettersInside s u
+letters-inside w v = record {
+  forward = λ e. rw (v .start, v .end) (w .from (v .unknown e));
+  within = λ e. rw (v .end) (w .upto (v .unknown e));
+}
 
+module _ {s p x : List ℕ} {i : ℕ} (w : TermOf s p x i) {u : SymbolAt} (v : SymbolFrom x i u) {code : ℕ} (c : PrefixCode (u .prefix) code) where
   own-part : u .known ≡ true → own-at s p x i ≡ between s (start-at p i + code / 65536) (end-at p i)
   unfolding own-letters symbol-in
   own-part e = rw (← v .is s, e, ← c .size, drop-between s (start-at p i) (end-at p i) (code / 65536))
 
   pub term-is : {own : Own} → OwnOf (between s (start-at p i + code / 65536) (end-at p i)) own → TermIs s p x i (record { unit = u; own = own })
-  term-is o = record { unit = v .is s; lettered = lettered; own = record { owns = λ e. rw (own-part e) o } }
+  term-is o = record { unit = v .is s; lettered = letters-inside w v; own = record { owns = λ e. rw (own-part e) o } }
 
 -- a term in the form that its unit takes
 pub term-written : (y : Style) (m : ℕ) (s : List ℕ) (t : Lent) (x : List ℕ) (i : ℕ) (f : UnitForm) {r : SourceTerm} {e : ℤ} {b c : List ℕ} {at q : ℕ}

@@ -26,7 +26,7 @@ ghost use Rattle.notations.specs.Styles.{style-in};
 ghost use Rattle.rewriting.specs.Texts.{text-room, WritesText};
 
 // The denominator in lowest terms of so many sixtieths: the first divisor of 60 that makes a whole number of them.
-fn denominator(sixtieths: u64) -> u64
+pub fn denominator(sixtieths: u64) -> u64
     requires { ⌜ sixtieths ≤ 2 ^ 31 ⌝ }
     ensures { λ r. ⌜ (r ≡ denominator-of (pos sixtieths)) × (r ≤ 60) ⌝ }
 {

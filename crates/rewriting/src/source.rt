@@ -18,7 +18,7 @@ ghost use Rattle.symbols.specs.Columns.{prefix-codes};
 ghost use Rattle.rewriting.specs.Units.{SymbolFrom, TermOf, TermIs};
 
 // What the spelling of term `i` stands for.
-fn unit_at(names: &[u8; NAME_PLACES], i: usize) -> SymbolAt
+pub fn unit_at(names: &[u8; NAME_PLACES], i: usize) -> SymbolAt
     requires { ⌜ i < most-terms ⌝ }
     ensures { λ r. ⌜ SymbolFrom (now (names .entry)) i r ⌝ }
 {

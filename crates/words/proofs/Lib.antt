@@ -1,0 +1,5 @@
+pub mod SpeechLaws
+pub mod NumberWords
+pub mod NameRows
+pub mod TermWords
+pub mod SpeakLaws

@@ -1,0 +1,2 @@
+pub mod SpokenNames
+pub mod Speech

@@ -18,6 +18,7 @@ compare() {
 
 compare read build/thalinguze read --vectors
 compare rewrite build/tests/rewrite
+compare words build/tests/words
 compare convert build/tests/convert
 compare convert build/thalinguze convert --vectors
 for kind in lines lines-ended lines-none; do compare "$kind" build/label-lines; done

@@ -22,7 +22,7 @@ def tabs():
 
 def names():
     """Wrong names on either side, with labels that are accepted and refused: the source's name and label come first."""
-    labels = (b'm', b'kg/m s', b'', b'm' * 256, b'\xff', b'm(1/7)')
+    labels = (b'm', b'kg/m s', b'', b'm' * 256, b'\xff', b'm(1/7)', b'(' * 9 + b'm' + b')' * 9, b' '.join([b'm'] * 33))
     return [line(b'x', source, data, target) for data in labels for wrong in WRONG_NAMES
             for source, target in ((wrong, b'fits'), (b'fits', wrong), (wrong, wrong))]
 

@@ -91,7 +91,7 @@ static void suggest_by_others(struct advice *a, bool as_it_stands) {
         struct text said = {0}, result = {0};
         if (n == a->notation || !is_sound(n, a->plain.s))
             continue;
-        say_reading(&said, a->plain.s, ask(n, a->plain.s).record);
+        ask_words(n, a->plain.s, &said);
         if (ask_rewriting(n, a->plain.s, a->notation, &result) == THALINGUZE_ACCEPTED && is_sound(a->notation, result.s)) {
             struct reading here = ask(a->notation, result.s), first = ask(a->notation, a->list[0].label);
             bool told = as_it_stands ? strcmp(a->list[0].label, result.s) == 0 : same_terms(here.record, first.record, true);

@@ -31,6 +31,13 @@ uint32_t ask_rewriting(uint32_t source, const char *label, uint32_t target, stru
     return r.number;
 }
 
+uint32_t ask_words(uint32_t notation, const char *label, struct text *words) {
+    uint8_t buffer[THALINGUZE_MAX_WORDS_SIZE];
+    struct thalinguze_rewritten r = thalinguze_words(notation, (const uint8_t *)label, strlen(label), buffer, sizeof buffer);
+    put(words, "%.*s", (int)r.length, (const char *)buffer);
+    return r.number;
+}
+
 int unit_of(const char *symbol) {
     int unit = THALINGUZE_UNITS;
     while (unit && strcmp(unit_words[unit][SYMBOL], symbol) != 0)

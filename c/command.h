@@ -26,14 +26,14 @@ struct reading ask(uint32_t notation, const char *label);
 bool accepts(uint32_t notation, const char *label);
 bool is_sound(uint32_t notation, const char *label); /* accepted, every unit known, every prefix lawful */
 uint32_t ask_rewriting(uint32_t source, const char *label, uint32_t target, struct text *result);
+uint32_t ask_words(uint32_t notation, const char *label, struct text *words);
 int unit_of(const char *symbol);                  /* the code of a unit, or 0 */
 const char *name_in(uint32_t notation, int unit); /* the first of a unit's names that the notation knows, or NULL */
 struct text spelling_of(const char *label, const uint8_t *record, unsigned i);
 bool same_terms(const uint8_t *a, const uint8_t *b, bool units); /* the same k and exponents, and if asked the same prefixes and units */
-/* say.c: readings and numbers in words */
-void put_sixtieths(struct text *t, int64_t sixtieths);
-void say_term(struct text *t, const char *label, const uint8_t *record, unsigned i, int64_t exponent);
-void say_reading(struct text *t, const char *label, const uint8_t *record);
+/* say.c: sizes and numbers in words */
+void put_sixtieths(struct text *t, int64_t sixtieths, const char *over); /* in lowest terms, with that for a fraction line */
+void say_power(struct text *t, int64_t sixtieths);
 void say_dimensions(struct text *t, const uint8_t *record);
 void say_size(struct text *t, const uint8_t *record);
 int say_fraction(struct text *t, int64_t n, int64_t d, int64_t k); /* n/d times ten to the k; -1, 0, 1 if it is below, at or above 1 */
@@ -82,6 +82,7 @@ void report_refusal(FILE *out, uint32_t notation, const char *label, uint32_t nu
 int rewrite_label(uint32_t source, const char *label, uint32_t target);
 int convert_labels(uint32_t first, const char *label, uint32_t second, const char *other, bool in_full);
 int list_units(uint32_t notation);
+int speak_label(uint32_t notation, const char *label);
 int print_vectors(bool converting);
 
 #endif

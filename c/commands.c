@@ -1,4 +1,4 @@
-/* The commands rewrite, convert and list. Results are on standard output, refusals on standard error. */
+/* The commands rewrite, convert, list and words. Results are on standard output, refusals on standard error. */
 #include <inttypes.h>
 #include "command.h"
 
@@ -6,30 +6,41 @@
 static void blame_term(uint32_t source, const char *label, const uint8_t *record, unsigned i, uint32_t target) {
     const struct notation_word *here = &notation_words[source], *there = &notation_words[target];
     struct text spelling = spelling_of(label, record, i), exponent = {0}, metre = {0}, unused = {0}, said = {0}, other = {0};
-    put_sixtieths(&exponent, thalinguze_term_exponent(record, i));
+    put_sixtieths(&exponent, thalinguze_term_exponent(record, i), "/");
     put(&metre, "m**(%s)", exponent.s);
     if (ask_rewriting(THALINGUZE_OGIP, metre.s, target, &unused) == THALINGUZE_NO_FORM)
         fprintf(stderr, "%s has the exponent %s. In %s %s.\n", spelling.s, exponent.s, there->name, there->powers);
     if (ask_rewriting(source, spelling.s, target, &unused) != THALINGUZE_NO_FORM)
         return;
-    say_reading(&said, spelling.s, ask(source, spelling.s).record);
-    if (accepts(target, spelling.s))
-        say_reading(&other, spelling.s, ask(target, spelling.s).record);
+    ask_words(source, spelling.s, &said);
+    ask_words(target, spelling.s, &other);
     fprintf(stderr, "%s is %s in %s, %s %s%s%s.\n", spelling.s, said.s, here->name, other.length ? "but would be" : "which", other.s,
             other.length ? " in " : there->name, other.length ? there->name : " does not have");
+}
+
+/* the result, or the refusal of a label in a notation */
+static int print_result(uint32_t number, const struct text *result, uint32_t notation, const char *label) {
+    if (number == THALINGUZE_ACCEPTED)
+        puts(result->s);
+    else
+        report_refusal(stderr, notation, label, number);
+    return number == THALINGUZE_ACCEPTED ? 0 : REFUSED;
+}
+
+int speak_label(uint32_t notation, const char *label) {
+    struct text words = {0};
+    uint32_t number = ask_words(notation, label, &words);
+    return print_result(number, &words, notation, label);
 }
 
 int rewrite_label(uint32_t source, const char *label, uint32_t target) {
     struct text result = {0};
     struct reading r = ask(source, label);
     uint32_t number = ask_rewriting(source, label, target, &result);
-    if (number == THALINGUZE_ACCEPTED)
-        puts(result.s);
-    else
-        report_refusal(stderr, number < THALINGUZE_UNKNOWN_UNIT ? source : target, label, number);
+    int status = print_result(number, &result, number < THALINGUZE_UNKNOWN_UNIT ? source : target, label);
     for (unsigned i = 0; i < thalinguze_count(r.record) && number == THALINGUZE_NO_FORM; i++)
         blame_term(source, label, r.record, i, target);
-    return number == THALINGUZE_ACCEPTED ? 0 : REFUSED;
+    return status;
 }
 
 /* what one of two labels has to do with the refusal of a conversion */
@@ -62,7 +73,7 @@ int convert_labels(uint32_t first, const char *label, uint32_t second, const cha
     say_fraction(&factor, n, d, k);
     printf("1%s%s is %s%s%s.\n", *label ? " " : "", label, factor.s, *other ? " " : "", other);
     if (k || in_full)
-        printf("n = %" PRId64 ", d = %" PRId64 ", k = %s%" PRId64 ": the factor is n/d times ten to the power k.\n", n, d,
+        printf("n = %" PRId64 ", d = %" PRId64 ", k = %s%" PRId64 ": the factor is n/d times ten to the k.\n", n, d,
                k < 0 ? "minus " : "", k < 0 ? -k : k);
     return 0;
 }

@@ -38,7 +38,7 @@ bool put_terms(uint32_t notation, const char *label, const uint8_t *record, stru
     put(&metres, thalinguze_k(record) ? "10**%d" : "", thalinguze_k(record));
     for (unsigned i = 0; i < thalinguze_count(record); i++) {
         put(&metres, "%sm**(", metres.length ? " " : "");
-        put_sixtieths(&metres, thalinguze_term_exponent(record, i));
+        put_sixtieths(&metres, thalinguze_term_exponent(record, i), "/");
         put(&metres, ")");
     }
     if (ask_rewriting(THALINGUZE_OGIP, metres.s, notation, &shape) != THALINGUZE_ACCEPTED)

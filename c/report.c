@@ -14,24 +14,25 @@ static unsigned list_blamed(struct text *list, uint32_t notation, const char *la
 
 static void print_first_sentence(uint32_t notation, const char *label, const uint8_t *record) {
     struct text said = {0}, blamed = {0};
-    say_reading(&said, label, record);
+    ask_words(notation, label, &said);
     unsigned unknown = list_blamed(&blamed, notation, label, record, THALINGUZE_FIELD_KNOWN);
     if (unknown)
         printf("Accepted, but %u unit%s unknown: %s.\nIt reads: %s.\n", unknown, unknown == 1 ? " is" : "s are", blamed.s, said.s);
     else if (list_blamed(&blamed, notation, label, record, THALINGUZE_FIELD_LAWFUL))
         printf("Accepted, but with an unlawful prefix in %s: %s.\nIt reads: %s.\n", notation_words[notation].name, blamed.s, said.s);
     else
-        printf("Accepted: %s.\n", said.s);
+        printf("Accepted: %s.\n", said.length ? said.s : "a plain number, without a unit");
 }
 
 /* the terms above and below the fraction line, where there is something below it or everything is asked for */
-static void print_sides(const char *label, const uint8_t *record, bool in_full) {
+static void print_sides(uint32_t notation, const char *label, const uint8_t *record, bool in_full) {
     struct text sides[2] = {{0}, {0}};
     for (unsigned i = 0; i < thalinguze_count(record); i++) {
         int64_t exponent = thalinguze_term_exponent(record, i);
         struct text *side = &sides[exponent < 0];
         put(side, "%s", side->length ? ", " : "");
-        say_term(side, label, record, i, exponent < 0 ? -exponent : exponent);
+        ask_words(notation, spelling_of(label, record, i).s, side);
+        say_power(side, exponent < 0 ? -exponent : exponent);
     }
     for (int s = 0; s < 2 && (sides[1].length || in_full); s++)
         printf("%s the line: %s.\n", s ? "Below" : "Above", sides[s].length ? sides[s].s : "nothing");
@@ -60,7 +61,7 @@ static void print_suggestions(FILE *out, const struct advice *a) {
     for (unsigned i = 0; i < a->count; i++) {
         const struct suggestion *s = &a->list[i];
         struct text said = {0};
-        say_reading(&said, a->plain.s, ask(s->source, a->plain.s).record);
+        ask_words(s->source, a->plain.s, &said);
         if (s->claim == ANOTHER)
             fprintf(out, "As %s this is %s; in %s: %s\n", notation_words[s->source].name, said.s, notation_words[a->notation].name, s->label);
         else
@@ -72,7 +73,7 @@ void report_reading(uint32_t notation, const char *label, const uint8_t *record,
     struct advice a;
     struct text blamed = {0};
     print_first_sentence(notation, label, record);
-    print_sides(label, record, in_full);
+    print_sides(notation, label, record, in_full);
     if (thalinguze_known(record) && list_blamed(&blamed, notation, label, record, THALINGUZE_FIELD_RECOMMENDED))
         printf("Not recommended: %s.\n", blamed.s);
     print_size(record, in_full);

@@ -1,4 +1,4 @@
-/* Readings and numbers in words, for listening. */
+/* Sizes and numbers in words, for listening. The words of labels are the library's. */
 #include <inttypes.h>
 #include "command.h"
 
@@ -9,39 +9,18 @@ static int64_t common_divisor(int64_t a, int64_t b) {
     return b ? common_divisor(b, a % b) : a < 0 ? -a : a;
 }
 
-void put_sixtieths(struct text *t, int64_t sixtieths) {
+void put_sixtieths(struct text *t, int64_t sixtieths, const char *over) {
     int64_t divisor = common_divisor(sixtieths, THALINGUZE_SIXTIETHS);
-    put(t, divisor == THALINGUZE_SIXTIETHS ? "%" PRId64 : "%" PRId64 "/%" PRId64, sixtieths / divisor, THALINGUZE_SIXTIETHS / divisor);
+    put(t, "%" PRId64, sixtieths / divisor);
+    if (divisor < THALINGUZE_SIXTIETHS)
+        put(t, "%s%" PRId64, over, THALINGUZE_SIXTIETHS / divisor);
 }
 
-static void say_power(struct text *t, int64_t sixtieths) {
+void say_power(struct text *t, int64_t sixtieths) {
     if (sixtieths == THALINGUZE_SIXTIETHS)
         return;
-    put(t, " to the power %s", sixtieths < 0 ? "minus " : "");
-    put_sixtieths(t, sixtieths < 0 ? -sixtieths : sixtieths);
-}
-
-void say_term(struct text *t, const char *label, const uint8_t *record, unsigned i, int64_t exponent) {
-    const char *prefix = prefix_words[thalinguze_term_prefix(record, i)].word, *unit = unit_words[thalinguze_term_unit(record, i)][WORD];
-    if (thalinguze_term_unit(record, i) != THALINGUZE_UNIT_UNKNOWN)
-        put(t, "%s%s%s", prefix, *prefix && strchr(unit, ' ') ? " " : "", unit);
-    else
-        put(t, "%s%sunknown unit %.*s", prefix, *prefix ? " " : "", (int)thalinguze_term_letters_length(record, i),
-            label + thalinguze_term_letters_start(record, i));
-    say_power(t, exponent);
-}
-
-void say_reading(struct text *t, const char *label, const uint8_t *record) {
-    if (thalinguze_k(record)) {
-        put(t, "ten");
-        say_power(t, (int64_t)thalinguze_k(record) * THALINGUZE_SIXTIETHS);
-    }
-    for (unsigned i = 0; i < thalinguze_count(record); i++) {
-        put(t, "%s", i || thalinguze_k(record) ? ", " : "");
-        say_term(t, label, record, i, thalinguze_term_exponent(record, i));
-    }
-    if (thalinguze_count(record) == 0)
-        put(t, "a plain number, without a unit");
+    put(t, " to the %s", sixtieths < 0 ? "minus " : "");
+    put_sixtieths(t, sixtieths < 0 ? -sixtieths : sixtieths, " over ");
 }
 
 /* the bases of one sign, those below the line each after "per" */

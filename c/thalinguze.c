@@ -6,6 +6,7 @@ static const char help[] = /* the sign % is for the notations */
     "usage: thalinguze read NOTATION LABEL           what a unit label means\n"
     "       thalinguze rewrite FROM LABEL TO         the label in another notation\n"
     "       thalinguze convert FROM LABEL TO LABEL   the factor between two labels\n"
+    "       thalinguze words NOTATION LABEL          the label as it is spoken\n"
     "       thalinguze list NOTATION                 the units that a notation knows\n"
     "       thalinguze read --vectors, convert --vectors   both for programs\n"
     "       thalinguze --version, --help\n"
@@ -15,12 +16,13 @@ static const char help[] = /* the sign % is for the notations */
     "  thalinguze read cds 'kg/m.s'\n"
     "  thalinguze rewrite cds '10+3pix/h' ogip\n"
     "  thalinguze convert cds km/h fits m/s\n"
+    "  thalinguze words cds 'kg/m.s' | espeak-ng\n"
     "A term is above the line if its exponent is positive, below if it is negative.\n"
     "A unit is known if the notation has it. A prefix is lawful on a unit that takes\n"
     "prefixes. Angstrom, erg, gauss and barn are known, but not recommended. What is\n"
     "suggested for a refused label is accepted, and its units are known.\n"
-    "read answers on standard output, also where it refuses. rewrite prints the new\n"
-    "label alone, and convert the factor; their refusals are on standard error.\n"
+    "read answers on standard output, also where it refuses. rewrite, convert and\n"
+    "words print their result alone there, and a refusal on standard error.\n"
     "Exit status: 0 accepted (read all: in one notation at least), 1 refused, 2 a\n"
     "wrong call, a malformed line, or a failure to read or write.\n"
     "--vectors reads lines from standard input: the number of a notation, a space and\n"
@@ -72,13 +74,13 @@ static int read_label(uint32_t first, uint32_t last, const char *label, bool in_
 
 /* a command with its words, without --long */
 static int run_command(int count, char **words, bool in_full) {
-    static const char *const names[] = {"read", "rewrite", "convert", "list"};
-    static const int counts[] = {3, 4, 5, 2};
+    static const char *const names[] = {"read", "rewrite", "convert", "list", "words"};
+    static const int counts[] = {3, 4, 5, 2, 3};
     int c = 0;
-    while (c < 4 && (count == 0 || strcmp(words[0], names[c]) != 0))
+    while (c < 5 && (count == 0 || strcmp(words[0], names[c]) != 0))
         c++;
-    if (c == 4)
-        return wrong_call("the first word must be read, rewrite, convert or list", "");
+    if (c == 5)
+        return wrong_call("the first word must be read, rewrite, convert, words or list", "");
     if (count == 2 && strcmp(words[1], "--vectors") == 0 && (c == 0 || c == 2))
         return print_vectors(c == 2);
     if (count != counts[c])
@@ -89,7 +91,7 @@ static int run_command(int count, char **words, bool in_full) {
     if (from == 0 || to == 0)
         return wrong_call("there is no such notation; a notation is ", notation_list().s);
     return c == 0 ? read_label(from, from, words[2], in_full) : c == 1 ? rewrite_label(from, words[2], to)
-         : c == 2 ? convert_labels(from, words[2], to, words[4], in_full) : list_units(from);
+         : c == 2 ? convert_labels(from, words[2], to, words[4], in_full) : c == 3 ? list_units(from) : speak_label(from, words[2]);
 }
 
 int main(int argc, char **argv) {

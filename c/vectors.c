@@ -41,7 +41,7 @@ static void put_term(struct text *t, const struct given *g, const uint8_t *recor
         put(t, "%s:", unit_words[unit][SYMBOL]);
     else /* a quoted spelling goes on after the letters */
         put(t, "?%.*s%s:", (int)count, (const char *)g->label + first, first + count < start + length ? "'" : "");
-    put_sixtieths(t, thalinguze_term_exponent(record, i));
+    put_sixtieths(t, thalinguze_term_exponent(record, i), "/");
 }
 
 static int by_symbol(const void *a, const void *b) {
@@ -63,12 +63,12 @@ static void put_reading(struct text *t, const struct given *g) {
     put(t, "] {");
     for (unsigned i = 0; i < count; i++) {
         put(t, "%s%s:", i ? " " : "", base_symbols[order[i]]);
-        put_sixtieths(t, thalinguze_dimension(record, order[i]));
+        put_sixtieths(t, thalinguze_dimension(record, order[i]), "/");
     }
     put(t, "}");
     for (unsigned p = 0; p < THALINGUZE_PRIMES; p++) {
         put(t, p ? "/" : " ");
-        put_sixtieths(t, thalinguze_scale(record, p));
+        put_sixtieths(t, thalinguze_scale(record, p), "/");
     }
 }
 

@@ -44,14 +44,14 @@ has() {
 # ACCEPTED LABELS
 
 says 0 out read cds 'kg/m.s' <<'END'
-Accepted: kilogram, metre to the power minus 1, second.
-Above the line: kilogram, second.
+Accepted: kilo gram metre to the minus 1 second.
+Above the line: kilo gram, second.
 Below the line: metre.
 Size: 1000 times gram second per metre.
 END
 says 0 out read CDS km/h <<'END'
-Accepted: kilometre, hour to the power minus 1.
-Above the line: kilometre.
+Accepted: kilo metre hour to the minus 1.
+Above the line: kilo metre.
 Below the line: hour.
 Size: 5/18 of a metre per second.
 END
@@ -73,25 +73,25 @@ Accepted: a plain number, without a unit.
 END
 says 0 out read fits Row.Number <<'END'
 Accepted, but 2 units are unknown: Row, Number.
-It reads: unknown unit Row, unknown unit Number.
+It reads: unit R o w end unit N u m b e r end.
 END
 has 0 cds yr 'Size: 31557600 seconds.'
-has 0 fits Gyr 'Size: 315576 times ten to the power 11 seconds.'
-has 0 fits Jy 'Size: ten to the power minus 23 of a gram per second to the power 2.'
-has 0 fits 'min(1/2)' 'Size: 2 times 3 to the power 1/2 times 5 to the power 1/2 times second to the power 1/2.'
+has 0 fits Gyr 'Size: 315576 times ten to the 11 seconds.'
+has 0 fits Jy 'Size: ten to the minus 23 of a gram per second to the 2.'
+has 0 fits 'min(1/2)' 'Size: 2 times 3 to the 1 over 2 times 5 to the 1 over 2 times second to the 1 over 2.'
 has 0 fits marcmin 'Size: 3/50 of an arcsecond.'
 has 0 cds % 'Size: 1/100.'
-has 0 cds 10+3pix/h 'Accepted: ten to the power 3, pixel, hour to the power minus 1.' 'Size: 5/18 of a pixel per second.'
-has 0 fits furlong 'Accepted, but 1 unit is unknown: furlong.' 'It reads: femto unknown unit urlong.'
-has 0 vou "'furlong'" "Accepted, but 1 unit is unknown: 'furlong'." 'It reads: unknown unit furlong.'
+has 0 cds 10+3pix/h 'Accepted: ten to the 3 pixel hour to the minus 1.' 'Size: 5/18 of a pixel per second.'
+has 0 fits furlong 'Accepted, but 1 unit is unknown: furlong.' 'It reads: femto unit u r l o n g end.'
+has 0 vou "'furlong'" "Accepted, but 1 unit is unknown: 'furlong'." 'It reads: unit f u r l o n g end.'
 has 0 ogip erg/kmin 'Accepted, but with an unlawful prefix in OGIP: kmin.' 'Not recommended: erg.'
 has 0 fits KM/S 'Did you mean: km/s'
 has 0 ogip KM/S/MPC 'Did you mean: km/s/Mpc' 'Did you mean: km/s/mpc'
 for case in 'fits:kg s/m' 'ogip:kg/m s' 'cds:kg/m.s' 'vou:kg.s/m'; do
-    has 0 "${case%%:*}" "${case#*:}" 'Above the line: kilogram, second.' 'Below the line: metre.'
+    has 0 "${case%%:*}" "${case#*:}" 'Above the line: kilo gram, second.' 'Below the line: metre.'
 done
 for case in 'fits:kg/(m s)' 'ogip:kg/(m s)' 'cds:kg/(m.s)' 'vou:kg/(m.s)'; do
-    has 0 "${case%%:*}" "${case#*:}" 'Above the line: kilogram.' 'Below the line: metre, second.'
+    has 0 "${case%%:*}" "${case#*:}" 'Above the line: kilo gram.' 'Below the line: metre, second.'
 done
 
 # REFUSED LABELS
@@ -101,13 +101,13 @@ Refused, number 4: the label does not follow the rules of FITS.
 In FITS one slash is allowed, outside groups and not after a power of ten, and one unit or group after it.
 If only the unit or group straight after a slash is below the line, write: kg m-1 s
 If all that follows the slash is below the line, write: kg/(m.s)
-As CDS this is kilogram, metre to the power minus 1, second; in FITS: kg m-1 s
+As CDS this is kilo gram metre to the minus 1 second; in FITS: kg m-1 s
 END
 says 1 out read ogip ph.cm-2.s-1 <<'END'
 Refused, number 4: the label does not follow the rules of OGIP.
 In OGIP a space or a star joins units.
 In OGIP an exponent comes after two stars, a fraction in brackets.
-As FITS this is photon, centimetre to the power minus 2, second to the power minus 1; in OGIP: photon cm**(-2) s**(-1)
+As FITS this is photon centi metre to the minus 2 second to the minus 1; in OGIP: photon cm**(-2) s**(-1)
 END
 says 1 out read fits 'log10(count/s)' <<'END'
 Refused, number 4: the label does not follow the rules of FITS.
@@ -118,7 +118,7 @@ says 1 out read fits 'W /m**2' <<'END'
 Refused, number 4: the label does not follow the rules of FITS.
 In FITS one space may join units, and there are no other spaces.
 Write: W/m**2
-As OGIP this is watt, metre to the power minus 2; in FITS: W m-2
+As OGIP this is watt metre to the minus 2; in FITS: W m-2
 END
 says 1 out read fits 'm/s²' <<'END'
 Refused, number 3: the label has signs that are not plain ASCII.
@@ -141,8 +141,49 @@ has 1 cds 20% 'The only numbers before a unit are powers of ten. Take this one o
 has 1 cds erg/s.Å 'The unit erg is unknown in CDS.'
 has 1 fits % 'As CDS this is percent, which FITS does not have.'
 has 1 ogip m2 'FITS and CDS accept the label as it stands.' 'Write: m**2'
-has 0 all kg/m.s 'Accepted in CDS. Refused in FITS, OGIP, VOUnits.' 'In CDS: Accepted: kilogram, metre to the power minus 1, second.' 'In FITS: Refused, number 4: the label does not follow the rules of FITS.'
+has 0 all kg/m.s 'Accepted in CDS. Refused in FITS, OGIP, VOUnits.' 'In CDS: Accepted: kilo gram metre to the minus 1 second.' 'In FITS: Refused, number 4: the label does not follow the rules of FITS.'
 has 1 ALL 'm,s' 'Accepted in none. Refused in FITS, OGIP, CDS, VOUnits.' 'In VOUnits: Refused, number 4: the label does not follow the rules of VOUnits.'
+
+# WORDS
+
+says 0 out words cds 'kg/m.s' <<'END'
+kilo gram metre to the minus 1 second
+END
+says 0 out words FITS '10-12 daX(-3/2)' <<'END'
+ten to the minus 12 deca unit X end to the minus 3 over 2
+END
+says 0 out words vou '' <<'END'
+
+END
+says 0 out words vou "'end'.erg/end" <<'END'
+unit e n d end erg unit e n d end to the minus 1
+END
+says 1 err words vou kg/m.s <<'END'
+Refused, number 4: the label does not follow the rules of VOUnits.
+In VOUnits one slash is allowed, after a unit, and one unit or group after it.
+If only the unit or group straight after a slash is below the line, write: kg.m**-1.s
+If all that follows the slash is below the line, write: kg/(m.s)
+As CDS this is kilo gram metre to the minus 1 second; in VOUnits: kg.m**-1.s
+END
+longest=10-9$(printf '%31s' '' | sed 's| |/hAU|g')/h$(printf '%125s' '' | tr ' ' x)
+run words cds "$longest"
+[ "$status" = 0 ] && [ "$(wc -c <"$directory/out")" = 1477 ] || fail "the longest words: status $status, not 1476 bytes and the end of a line"
+# the stored words
+awk -F '\t' '
+    function text(hex,    i, s) { for (i = 1; i < length(hex); i += 2) s = s sprintf("%c", (index("0123456789abcdef", substr(hex, i, 1)) - 1) * 16 + index("0123456789abcdef", substr(hex, i + 1, 1)) - 1); return s }
+    { split("fits ogip cds vou", names, " "); print names[$1] "\t" text($2) "\t" $3 }' vectors/words.tsv >"$directory/stored"
+while IFS="$(printf '\t')" read -r notation label words; do
+    run words "$notation" "$label"
+    [ "$status" = 0 ] && [ "$(cat "$directory/out")" = "$words" ] || fail "words $notation $label: not $words"
+done <"$directory/stored"
+# what is spoken, as a sound file, where there is a voice
+if command -v espeak-ng >/dev/null; then
+    "$command" words cds kg/m.s | espeak-ng -w "$directory/spoken.wav"
+    [ "$(head -c 4 "$directory/spoken.wav")" = RIFF ] && [ "$(wc -c <"$directory/spoken.wav")" -gt 20000 ] || fail 'espeak-ng: no sound'
+    tried=$((tried + 1))
+else
+    echo 'espeak-ng is not installed: no label was spoken aloud'
+fi
 
 # REWRITING, CONVERTING, LISTING
 
@@ -154,7 +195,7 @@ says 0 out rewrite fits '' vou <<'END'
 END
 says 1 err rewrite ogip ph vou <<'END'
 Refused, number 12: the label has no form in VOUnits.
-ph is picohour in OGIP, but would be photon in VOUnits.
+ph is pico hour in OGIP, but would be photon in VOUnits.
 END
 says 1 err rewrite fits 'Hz(1/2)' cds <<'END'
 Refused, number 12: the label has no form in CDS.
@@ -175,26 +216,26 @@ Write: km.s-1
 END
 says 0 out convert cds km/h fits m/s <<'END'
 1 km/h is 5/18 m/s.
-n = 1, d = 36, k = 1: the factor is n/d times ten to the power k.
+n = 1, d = 36, k = 1: the factor is n/d times ten to the k.
 END
 says 0 out convert fits h fits min <<'END'
 1 h is 60 min.
-n = 6, d = 1, k = 1: the factor is n/d times ten to the power k.
+n = 6, d = 1, k = 1: the factor is n/d times ten to the k.
 END
 says 0 out convert fits deg fits arcmin --long <<'END'
 1 deg is 60 arcmin.
-n = 6, d = 1, k = 1: the factor is n/d times ten to the power k.
+n = 6, d = 1, k = 1: the factor is n/d times ten to the k.
 END
 says 0 out convert fits byte fits bit <<'END'
 1 byte is 8 bit.
 END
 says 0 out convert fits Ym fits ym <<'END'
-1 Ym is ten to the power 48 ym.
-n = 1, d = 1, k = 48: the factor is n/d times ten to the power k.
+1 Ym is ten to the 48 ym.
+n = 1, d = 1, k = 48: the factor is n/d times ten to the k.
 END
 says 0 out convert cds % fits '' <<'END'
 1 % is 1/100.
-n = 1, d = 1, k = minus 2: the factor is n/d times ten to the power k.
+n = 1, d = 1, k = minus 2: the factor is n/d times ten to the k.
 END
 says 1 err convert fits furlong ogip m <<'END'
 Refused, number 8: a unit is unknown, and so is its size.
@@ -230,11 +271,22 @@ for n in 1:fits 2:ogip 3:cds 4:vou; do
 done
 run list fits
 grep -qx 'mol: mole, takes prefixes' "$directory/out" || fail 'list fits: no mole'
+# a unit is listed by the name that is spoken, in words of its own where that is two words in one
+for notation in fits ogip cds vou; do
+    "$command" list "$notation" | sed 's/,.*//' >"$directory/units"
+    while IFS= read -r line; do
+        run words "$notation" "${line%%: *}"
+        spoken=$(cat "$directory/out")
+        case $line in u:*) [ "$spoken" = dalton ] ;; adu:*) [ "$spoken" = datanumber ] ;;
+        *) [ "$spoken" = "$(echo "${line#*: }" | tr -d ' ' | tr 'A-Z' 'a-z')" ] ;;
+        esac || fail "words $notation ${line%%: *}: $spoken"
+    done <"$directory/units"
+done
 
 # WRONG CALLS AND HELP
 
 for arguments in '' write read 'read fits' 'read fits kg m' 'read --vector' 'read --vectors x y' 'read iso m' 'rewrite fits m' 'rewrite fits m iso' \
-    'rewrite --vectors' 'convert fits m ogip' 'convert iso m fits m' 'list' 'list all' 'convert all m fits m' --long 'list fits m' 'x y z u v w q'; do
+    'rewrite --vectors' 'words fits' 'words iso m' 'words --vectors' 'words all m' 'convert fits m ogip' 'convert iso m fits m' 'list' 'list all' 'convert all m fits m' --long 'list fits m' 'x y z u v w q'; do
     # shellcheck disable=SC2086 # the words are arguments
     run $arguments
     [ "$status" = 2 ] || fail "thalinguze $arguments: status $status, not 2"
@@ -253,7 +305,7 @@ says 0 out --version <<END
 thalinguze $version
 END
 if [ -w /dev/full ]; then
-    for arguments in --help 'read cds m' 'rewrite cds m fits' 'convert cds m fits m' 'list cds'; do
+    for arguments in --help 'read cds m' 'rewrite cds m fits' 'convert cds m fits m' 'words cds m' 'list cds'; do
         status=0
         # shellcheck disable=SC2086
         "$command" $arguments >/dev/full 2>/dev/null || status=$?

@@ -37,7 +37,7 @@ rows=0
 while IFS='|' read -r _ notation above below _; do
     name=$(echo "$notation" | tr -d ' ' | sed 's/VOUnits/vou/' | tr 'A-Z' 'a-z')
     label() { echo "$1" | sed 's/^ *`//; s/` *$//'; }
-    build/thalinguze read "$name" "$(label "$above")" | grep -qx 'Above the line: kilogram, second.' || fail "above in $notation"
+    build/thalinguze read "$name" "$(label "$above")" | grep -qx 'Above the line: kilo gram, second.' || fail "above in $notation"
     build/thalinguze read "$name" "$(label "$below")" | grep -qx 'Below the line: metre, second.' || fail "below in $notation"
     rows=$((rows + 1))
 done <<END

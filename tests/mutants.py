@@ -34,7 +34,8 @@ COMPARISONS = (
 )
 # what is made of a crate for the comparisons
 MADE = {
-    "face": ["build/libthalinguze.a", "build/thalinguze"] + ["build/tests/" + name for name in ("limits", "header", "rewrite", "convert")],
+    "face": ["build/libthalinguze.a", "build/thalinguze"]
+    + ["build/tests/" + name for name in ("limits", "header", "rewrite", "words", "convert")],
     "label_lines": ["build/label-lines"],
 }
 

@@ -16,7 +16,7 @@ SHARED = build/libthalinguze.so
 HEADERS = include/thalinguze.h $(wildcard c/*.h)
 SOURCES = $(wildcard c/*.c)
 PARTS = $(patsubst c/%.c,build/%.o,$(SOURCES))
-TESTS = $(addprefix build/tests/,limits header advice stack guard guard-plain rewrite convert thalinguze)
+TESTS = $(addprefix build/tests/,limits header advice stack guard guard-plain rewrite words convert thalinguze)
 
 # The version is the three numbers of the header. The shared library's soname has the first.
 VERSION := $(shell sed -n 's/^.define THALINGUZE_VERSION_[A-Z]* \([0-9][0-9]*\)$$/\1/p' include/thalinguze.h | paste -s -d .)
@@ -58,7 +58,7 @@ test: all $(TESTS)
 	@tests/make.sh
 	@tests/install.sh
 
-compare: all build/tests/rewrite build/tests/convert
+compare: all build/tests/rewrite build/tests/words build/tests/convert
 	@tests/second.sh $(COUNT) $(SEED) 1000
 	@tests/independent.sh
 
@@ -153,12 +153,12 @@ build/%.o: c/%.c $(HEADERS)
 build/thalinguze: $(PARTS) $(LIBRARY)
 	$(CC) -o $@ $^
 
-build/tests/%: tests/%.c tests/arena.h tests/hex_label.h tests/labels.h tests/painted.h tests/reader.h $(HEADERS) $(LIBRARY)
+build/tests/%: tests/%.c $(wildcard tests/*.h) $(HEADERS) $(LIBRARY)
 	@mkdir -p build/tests
 	$(CC) $(CFLAGS) -o $@ $(filter %.c,$^) $(LIBRARY)
 
 build/tests/stack: CFLAGS += -pthread
-build/tests/guard build/tests/advice build/tests/rewrite build/tests/convert: CFLAGS += $(SANITIZERS)
+build/tests/guard build/tests/advice build/tests/rewrite build/tests/words build/tests/convert: CFLAGS += $(SANITIZERS)
 
 # the command under the sanitizers
 build/tests/thalinguze: $(SOURCES) $(HEADERS) $(LIBRARY)
@@ -168,7 +168,7 @@ build/tests/thalinguze: $(SOURCES) $(HEADERS) $(LIBRARY)
 build/tests/advice: $(filter-out c/thalinguze.c,$(SOURCES))
 build/tests/advice: LIBRARY += -lm
 
-build/tests/guard-plain: tests/guard.c tests/arena.h tests/labels.h $(HEADERS) $(LIBRARY)
+build/tests/guard-plain: tests/guard.c $(wildcard tests/*.h) $(HEADERS) $(LIBRARY)
 	@mkdir -p build/tests
 	$(CC) $(CFLAGS) -g -o $@ $< $(LIBRARY)
 

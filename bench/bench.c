@@ -1,4 +1,4 @@
-/* How long reading, rewriting and converting take and how much stack, as tables in Markdown: bench. The figures are ratios of one run: in
+/* How long reading, rewriting, converting and words take and how much stack, as tables in Markdown: bench. The figures are ratios of one run: in
    each round every reader reads all labels, and the best round of each counts. Nothing is timed before the readers agree on every label. */
 #define _POSIX_C_SOURCE 200809L
 #include <time.h>
@@ -259,6 +259,7 @@ int main(void) {
     table_of_calls("rewriting in VOUnits", rewrite_in_vounits);
     /* which reads the label twice */
     table_of_calls("converting to itself", convert_to_itself);
+    table_of_calls("words", write_as_words);
     double beside_wcslib = table_beside("wcslib", read_by_wcslib);
     if (beside_wcslib > 0)
         printf("At most 0.4 of wcslib on FITS labels: %s, %.2f.\n\n", beside_wcslib <= 0.4 ? "reached" : "not reached", beside_wcslib);

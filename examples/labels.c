@@ -1,5 +1,5 @@
-/* Reads a label, rewrites it in another notation, and converts from one
-   label to another. */
+/* Reads a label, rewrites it in another notation, converts from one
+   label to another, and speaks a label. */
 #include <stdio.h>
 #include <string.h>
 #include <thalinguze.h>
@@ -21,17 +21,31 @@ static void read_label(uint32_t notation, const char *label) {
                thalinguze_term_exponent(record, i));
 }
 
+/* what rewriting and words answer */
+static void print_result(const char *label, const char *how,
+                         struct thalinguze_rewritten answer,
+                         const uint8_t *result) {
+    if (answer.number != THALINGUZE_ACCEPTED)
+        printf("%s is refused, number %u\n", label,
+               (unsigned)answer.number);
+    else
+        printf("%s is %s as %.*s\n", label, how,
+               (int)answer.length, (const char *)result);
+}
+
 static void rewrite_label(uint32_t source, const char *label,
                           uint32_t target) {
     uint8_t result[THALINGUZE_MAX_LABEL_SIZE];
-    struct thalinguze_rewritten rewritten = thalinguze_rewrite(
+    struct thalinguze_rewritten answer = thalinguze_rewrite(
         source, LABEL(label), target, result, sizeof result);
-    if (rewritten.number != THALINGUZE_ACCEPTED)
-        printf("%s is refused, number %u\n", label,
-               (unsigned)rewritten.number);
-    else
-        printf("%s is rewritten as %.*s\n", label,
-               (int)rewritten.length, (const char *)result);
+    print_result(label, "rewritten", answer, result);
+}
+
+static void speak_label(uint32_t notation, const char *label) {
+    uint8_t words[THALINGUZE_MAX_WORDS_SIZE];
+    struct thalinguze_rewritten answer = thalinguze_words(
+        notation, LABEL(label), words, sizeof words);
+    print_result(label, "spoken", answer, words);
 }
 
 static void convert_label(uint32_t first, const char *from,
@@ -59,5 +73,6 @@ int main(void) {
     read_label(THALINGUZE_FITS, "kg/m.s");
     rewrite_label(THALINGUZE_CDS, "10+3pix/h", THALINGUZE_OGIP);
     convert_label(THALINGUZE_CDS, "km/h", THALINGUZE_CDS, "m/s");
+    speak_label(THALINGUZE_CDS, "kg/m.s");
     return 0;
 }

@@ -1,5 +1,5 @@
 #!/usr/bin/env python3
-"""Reads a label, rewrites it in another notation, and converts from one label to another, as labels.c does.
+"""Reads a label, rewrites it in another notation, converts from one label to another, and speaks a label, as labels.c does.
 
 usage: labels.py [LIBRARY]     LIBRARY is the path of the shared library; without it the system's loader looks for it
 """
@@ -12,6 +12,7 @@ FITS, OGIP, CDS, VOUNITS = 1, 2, 3, 4
 FIELDS, FIELD_COUNT, FIELD_TERMS, TERM_FIELDS, TERM_UNIT, TERM_EXPONENT = 266, 5, 6, 7, 1, 2
 CONVERSION_FIELDS = 4
 MAX_LABEL_SIZE = 255
+MAX_WORDS_SIZE = 1476
 VERSION_MAJOR = 0
 
 
@@ -30,6 +31,8 @@ def load(path):
     library.thalinguze_read.restype = ctypes.c_uint32
     library.thalinguze_rewrite.argtypes = [notation, label, size, notation, buffer, size]
     library.thalinguze_rewrite.restype = Rewritten
+    library.thalinguze_words.argtypes = [notation, label, size, buffer, size]
+    library.thalinguze_words.restype = Rewritten
     library.thalinguze_convert.argtypes = [notation, label, size, notation, label, size, buffer, size]
     library.thalinguze_convert.restype = ctypes.c_uint32
     if library.thalinguze_version() // 10000 != VERSION_MAJOR:
@@ -52,13 +55,23 @@ def read(library, notation, label):
     return [(fields[term + TERM_UNIT], fields[term + TERM_EXPONENT]) for term in terms]
 
 
+def result_of(answer, buffer):
+    """What rewriting and words wrote."""
+    if answer.number != 0:
+        raise Refused(answer.number)
+    return buffer.raw[: answer.length]
+
+
 def rewrite(library, source, label, target):
     """The label in the target notation."""
     result = ctypes.create_string_buffer(MAX_LABEL_SIZE)
-    rewritten = library.thalinguze_rewrite(source, label, len(label), target, result, len(result))
-    if rewritten.number != 0:
-        raise Refused(rewritten.number)
-    return result.raw[: rewritten.length]
+    return result_of(library.thalinguze_rewrite(source, label, len(label), target, result, len(result)), result)
+
+
+def speak(library, notation, label):
+    """The label's words."""
+    words = ctypes.create_string_buffer(MAX_WORDS_SIZE)
+    return result_of(library.thalinguze_words(notation, label, len(label), words, len(words)), words)
 
 
 def convert(library, first, from_label, second, to_label):
@@ -81,6 +94,7 @@ def main():
     print(f"10+3pix/h is rewritten as {rewrite(library, CDS, b'10+3pix/h', OGIP).decode()}")
     numerator, denominator, k = convert(library, CDS, b"km/h", CDS, b"m/s")
     print(f"km/h to m/s: times {numerator}/{denominator} times ten to the {k}")
+    print(f"kg/m.s is spoken as {speak(library, CDS, b'kg/m.s').decode()}")
 
 
 if __name__ == "__main__":

@@ -2,8 +2,10 @@
    and COUNT inputs made at random. A call must leave every byte that is not of its result, refused calls every byte, and every size and place
    of the lent buffer must get the same answer. */
 #define _DEFAULT_SOURCE
+#include <ctype.h>
 #include "arena.h"
 #include "labels.h"
+#include "longest.h"
 
 enum { FILL = 0xAA, PAST = 64, BUFFER_ROOM = THALINGUZE_RECORD_SIZE + PAST, TARGETS = 6 };
 
@@ -12,7 +14,7 @@ struct tally {
     const char *call;
     unsigned long inputs, accepted;
 };
-static struct tally reading = {"read", 0, 0}, rewriting = {"rewritten", 0, 0}, converting = {"converted", 0, 0};
+static struct tally reading = {"read", 0, 0}, converting = {"converted", 0, 0};
 static unsigned long lendings, wrong;
 static struct arena first_arena, second_arena, buffer_arena;
 
@@ -86,30 +88,89 @@ static void try_all_sizes(void) {
         }
 }
 
-/* REWRITING */
+/* REWRITING AND WORDS */
 
-static void lend_buffer(const struct vector *v, uint32_t target, size_t lent, struct thalinguze_rewritten wanted, const uint8_t *whole) {
+/* a call that writes a result into a buffer: how it went so far, the call, and how many bytes hold every result */
+struct writing {
+    struct tally tally;
+    struct thalinguze_rewritten (*write)(uint32_t source, const uint8_t *label, size_t label_size, uint32_t target, uint8_t *buffer,
+                                         size_t buffer_size);
+    size_t most;
+};
+
+/* words have no target */
+static struct thalinguze_rewritten write_words(uint32_t source, const uint8_t *label, size_t label_size, uint32_t target, uint8_t *buffer,
+                                               size_t buffer_size) {
+    (void)target;
+    return thalinguze_words(source, label, label_size, buffer, buffer_size);
+}
+
+static struct writing rewriting = {{"rewritten", 0, 0}, thalinguze_rewrite, THALINGUZE_MAX_LABEL_SIZE};
+static struct writing speaking = {{"spoken", 0, 0}, write_words, THALINGUZE_MAX_WORDS_SIZE};
+
+static void lend_buffer(const struct writing *w, const struct vector *v, uint32_t target, size_t lent, struct thalinguze_rewritten wanted,
+                        const uint8_t *whole) {
     if (wanted.number == 0 && lent < wanted.length)
         wanted = (struct thalinguze_rewritten){THALINGUZE_BUFFER_TOO_SHORT, 0};
     uint8_t *label = lend(&first_arena, v), *buffer = place(&buffer_arena, lent, buffer_place(), FILL);
-    struct thalinguze_rewritten answer = thalinguze_rewrite(v->notation, label, v->size, target, buffer, lent);
+    struct thalinguze_rewritten answer = w->write(v->notation, label, v->size, target, buffer, lent);
     check(answer.number == wanted.number && answer.length == wanted.length && kept(&first_arena, label, v) &&
-              holds_only(&buffer_arena, buffer, whole, wanted.length, FILL), &rewriting, v, lent);
+              holds_only(&buffer_arena, buffer, whole, wanted.length, FILL), &w->tally, v, lent);
 }
 
-/* the whole result once, then no buffer, buffers about as long as the result, and one of any length */
+/* the whole result once, then no buffer, buffers about as long as the result and about as long as the longest, and one of any length */
+static struct thalinguze_rewritten try_writing(struct writing *w, const struct vector *v, uint32_t target, uint8_t *whole) {
+    struct thalinguze_rewritten r = w->write(v->notation, v->label, v->size, target, whole, w->most);
+    check(r.length <= w->most && (r.number == 0 || r.length == 0), &w->tally, v, w->most);
+    lend_buffer(w, v, target, 0, r, whole);
+    if (r.length > 0)
+        lend_buffer(w, v, target, r.length - 1, r, whole);
+    lend_buffer(w, v, target, r.length, r, whole);
+    lend_buffer(w, v, target, r.length + 1, r, whole);
+    lend_buffer(w, v, target, w->most - 1 + w->tally.inputs % 3, r, whole);
+    lend_buffer(w, v, target, w->tally.inputs % (w->most + PAST), r, whole);
+    count(&w->tally, r.number == 0);
+    return r;
+}
+
 static void try_rewrite(const struct vector *v, uint32_t target) {
     uint8_t whole[THALINGUZE_MAX_LABEL_SIZE];
-    struct thalinguze_rewritten r = thalinguze_rewrite(v->notation, v->label, v->size, target, whole, sizeof whole);
-    bool possible = r.number <= THALINGUZE_TOO_MANY_TERMS || r.number == THALINGUZE_NO_FORM || r.number == THALINGUZE_RESULT_TOO_LONG;
-    check(possible && r.length <= sizeof whole && (r.number == 0 || r.length == 0), &rewriting, v, sizeof whole);
-    lend_buffer(v, target, 0, r, whole);
-    if (r.length > 0)
-        lend_buffer(v, target, r.length - 1, r, whole);
-    lend_buffer(v, target, r.length, r, whole);
-    lend_buffer(v, target, r.length + 1, r, whole);
-    lend_buffer(v, target, rewriting.inputs % (sizeof whole + PAST), r, whole);
-    count(&rewriting, r.number == 0);
+    uint32_t number = try_writing(&rewriting, v, target, whole).number;
+    check(number <= THALINGUZE_TOO_MANY_TERMS || number == THALINGUZE_NO_FORM || number == THALINGUZE_RESULT_TOO_LONG, &rewriting.tally, v,
+          sizeof whole);
+}
+
+/* letters, digits and single spaces, with no space at an end */
+static bool are_words(const uint8_t *bytes, size_t size) {
+    bool after_space = true;
+    for (size_t i = 0; i < size; i++) {
+        bool space = bytes[i] == ' ';
+        if (space ? after_space : !isalnum(bytes[i]))
+            return false;
+        after_space = space;
+    }
+    return size == 0 || !after_space;
+}
+
+/* a label that can be read can be spoken */
+static void try_words(const struct vector *v) {
+    uint8_t whole[THALINGUZE_MAX_WORDS_SIZE];
+    struct thalinguze_rewritten r = try_writing(&speaking, v, 0, whole);
+    check(r.number == thalinguze_read(v->notation, v->label, v->size, NULL, 0) && are_words(whole, r.length), &speaking.tally, v,
+          sizeof whole);
+}
+
+/* every size of buffer, at every place, for the longest words and for a refused label */
+static void try_all_sizes_of_words(void) {
+    static struct vector longest = {THALINGUZE_CDS, sizeof LONGEST_LABEL - 1, LONGEST_LABEL}, refused = {THALINGUZE_CDS, 3, "m m"};
+    uint8_t whole[THALINGUZE_MAX_WORDS_SIZE];
+    struct thalinguze_rewritten r = try_writing(&speaking, &longest, 0, whole);
+    check(r.length == sizeof whole, &speaking.tally, &longest, sizeof whole);
+    for (size_t lent = 0; lent <= sizeof whole + PAST; lent++)
+        for (unsigned i = 0; i < PLACES; i++) {
+            lend_buffer(&speaking, &longest, 0, lent, r, whole);
+            lend_buffer(&speaking, &refused, 0, lent, (struct thalinguze_rewritten){THALINGUZE_NOT_IN_GRAMMAR, 0}, whole);
+        }
 }
 
 /* CONVERTING */
@@ -140,9 +201,10 @@ static void try_nulls(void) {
     for (uint32_t source = 0; source < TARGETS; source++)
         for (uint32_t target = 0; target < TARGETS; target++) {
             bool from = source >= 1 && source <= 4, both = from && target >= 1 && target <= 4;
-            struct thalinguze_rewritten r = thalinguze_rewrite(source, NULL, 0, target, NULL, 0);
+            struct thalinguze_rewritten r = thalinguze_rewrite(source, NULL, 0, target, NULL, 0), w = thalinguze_words(source, NULL, 0, NULL, 0);
             check(thalinguze_read(source, NULL, 0, NULL, 0) == (from ? 0 : 1), &reading, &empty, 0);
-            check(r.number == (both ? 0 : 1) && r.length == 0, &rewriting, &empty, 0);
+            check(r.number == (both ? 0 : 1) && r.length == 0, &rewriting.tally, &empty, 0);
+            check(w.number == (from ? 0 : 1) && w.length == 0, &speaking.tally, &empty, 0);
             check(thalinguze_convert(source, NULL, 0, target, NULL, 0, NULL, 0) == (both ? 0 : 1), &converting, &empty, 0);
         }
 }
@@ -155,6 +217,7 @@ static void try_everywhere(const struct vector *v) {
     for (other.notation = 0; other.notation < TARGETS; other.notation++) {
         try_read(&other);
         try_rewrite(v, other.notation);
+        try_words(&other);
         try_convert(v, &other);
     }
 }
@@ -162,7 +225,8 @@ static void try_everywhere(const struct vector *v) {
 /* one label through each call, in its notation, with the next target */
 static void try_here(const struct vector *v) {
     try_read(v);
-    try_rewrite(v, rewriting.inputs % TARGETS);
+    try_rewrite(v, rewriting.tally.inputs % TARGETS);
+    try_words(v);
     try_convert(v, v);
 }
 
@@ -240,6 +304,7 @@ static void try_random(void) {
     make_second(&a, &b);
     try_read(&a);
     try_rewrite(&a, some_notation());
+    try_words(&a);
     try_convert(&a, &b);
 }
 
@@ -255,6 +320,7 @@ int main(int argc, char **argv) {
     buffer_arena = make_arena(BUFFER_ROOM + 2 * GUARD);
     try_nulls();
     try_all_sizes();
+    try_all_sizes_of_words();
     try_file("vectors/readings.tsv", try_everywhere);
     try_file("vectors/symbols.tsv", try_here);
     try_pairs("vectors/converts.tsv");
@@ -263,7 +329,8 @@ int main(int argc, char **argv) {
     for (unsigned long i = 0; i < inputs; i++)
         try_random();
     bool enough = report(&reading);
-    enough = report(&rewriting) && enough;
+    enough = report(&rewriting.tally) && enough;
+    enough = report(&speaking.tally) && enough;
     enough = report(&converting) && enough;
     printf("%lu watched buffers (seed %lu), %lu wrong\n", lendings, SEED, wrong);
     return wrong != 0 || !enough;

@@ -7,6 +7,7 @@
 #include <string.h>
 #include "../c/words.h"
 #include "../include/thalinguze.h"
+#include "longest.h"
 
 struct constant {
     const char *symbol, *name;
@@ -209,6 +210,17 @@ static void check_number_limits(void) {
     check(read_text(1, "m", record) == 0 && thalinguze_term_exponent(record, 0) == THALINGUZE_SIXTIETHS, "exponent 1", "in sixtieths");
 }
 
+/* the longest words, and a buffer that is a byte short for them */
+static void check_limit_of_words(void) {
+    const uint8_t *label = (const uint8_t *)LONGEST_LABEL;
+    uint8_t words[THALINGUZE_MAX_WORDS_SIZE];
+    _Static_assert(sizeof LONGEST_LABEL - 1 == THALINGUZE_MAX_LABEL_SIZE, "as long as a label may be");
+    struct thalinguze_rewritten all = thalinguze_words(THALINGUZE_CDS, label, THALINGUZE_MAX_LABEL_SIZE, words, sizeof words),
+                                none = thalinguze_words(THALINGUZE_CDS, label, THALINGUZE_MAX_LABEL_SIZE, words, sizeof words - 1);
+    check(all.number == THALINGUZE_ACCEPTED && all.length == THALINGUZE_MAX_WORDS_SIZE, "limit of words", "the longest");
+    check(none.number == THALINGUZE_BUFFER_TOO_SHORT && none.length == 0, "refusal", "buffer too short");
+}
+
 /* a field at its literal place, here read without the header */
 static int literal(const uint8_t *record, size_t field) {
     const uint8_t *at = record + 8 * field;
@@ -296,6 +308,7 @@ int main(void) {
     check_bases();
     check_notations_and_refusals();
     check_number_limits();
+    check_limit_of_words();
     check_layout();
     check_verdicts();
     check_letters();

@@ -63,6 +63,7 @@ unit 3, exponent 60 sixtieths
 kg/m.s is refused, number 4
 10+3pix/h is rewritten as 10**3 pixel h**(-1)
 km/h to m/s: times 1/36 times ten to the 1
+kg/m.s is spoken as kilo gram metre to the minus 1 second
 END
 # prints NAME COMMAND..: what is wanted
 prints() {

@@ -1,7 +1,9 @@
-/* Reads labels at each limit and one past it, and compares the answers' numbers, counts of terms and powers of ten. */
+/* Reads labels at each limit and one past it, and compares the answers' numbers, counts of terms and powers of ten; writes labels as words at each
+   limit and one past it, and compares the words. */
 #include <stdio.h>
 #include <string.h>
 #include "../include/thalinguze.h"
+#include "longest.h"
 
 static int tried, wrong;
 
@@ -142,11 +144,112 @@ static void factors(void) {
     }
 }
 
+/* WORDS */
+
+enum { MOST_WORDS = 1476, FILL = 0xAA };
+
+/* the words of a label in a buffer of that size; a refused label has none */
+static void expect_words(uint32_t notation, const char *text, size_t size, unsigned number, const char *words) {
+    static uint8_t buffer[MOST_WORDS + 64], wanted[sizeof buffer];
+    size_t length = strlen(words);
+    memset(buffer, FILL, sizeof buffer);
+    memset(wanted, FILL, sizeof wanted);
+    memcpy(wanted, words, length);
+    struct thalinguze_rewritten r = thalinguze_words(notation, (const uint8_t *)text, strlen(text), size == 0 ? NULL : buffer, size);
+    tried++;
+    if (r.number == number && r.length == length && memcmp(buffer, wanted, sizeof buffer) == 0)
+        return;
+    wrong++;
+    printf("notation %u, a buffer of %zu bytes, words of %s: %u, %u bytes; not %u, %s\n", notation, size, text, r.number, r.length, number, words);
+}
+
+/* a buffer that holds all words, one with a byte more, one of just their size, and one that is a byte short */
+static void expect_spoken(uint32_t notation, const char *text, const char *words) {
+    size_t length = strlen(words);
+    expect_words(notation, text, MOST_WORDS, 0, words);
+    expect_words(notation, text, length + 1, 0, words);
+    expect_words(notation, text, length, 0, words);
+    if (length > 0)
+        expect_words(notation, text, length - 1, 14, "");
+}
+
+/* a refusal of the label comes before that of the buffer */
+static void expect_unspoken(uint32_t notation, const char *text, unsigned number) {
+    expect_words(notation, text, MOST_WORDS, number, "");
+    expect_words(notation, text, 1, number, "");
+    expect_words(notation, text, 0, number, "");
+}
+
+static void sizes_of_words(void) {
+    const char *const separators[] = {"", ".", " ", ".", "."};
+    static char words[4096];
+    expect_unspoken(0, "", 1);
+    expect_unspoken(5, "m", 1);
+    expect_unspoken(UINT32_MAX, times(256, "m"), 1);
+    for (uint32_t n = 1; n <= 4; n++) {
+        expect_spoken(n, "", "");
+        expect_words(n, "", 0, 0, "");
+        expect_spoken(n, "m", "metre");
+        expect_words(n, "m", 0, 14, "");
+        strcpy(words, times(31, "metre "));
+        strcat(words, "metre");
+        expect_spoken(n, terms(32, separators[n]), words);
+        expect_unspoken(n, terms(33, separators[n]), 7);
+        strcpy(words, "milli unit");
+        strcat(words, times(254, " m"));
+        strcat(words, " end");
+        expect_spoken(n, times(255, "m"), words);
+        expect_unspoken(n, times(256, "m"), 2);
+        expect_unspoken(n, "m\x7f", 3);
+        expect_unspoken(n, "m~", 4);
+        expect_spoken(n, nested(8), "metre");
+        expect_unspoken(n, nested(9), 6);
+    }
+}
+
+static void powers_of_words(void) {
+    const char *const power[] = {"", "**", "**", "", "**"}, *const factor[] = {"", "10", "10**", "10", "10**"};
+    for (uint32_t n = 1; n <= 4; n++) {
+        expect_spoken(n, joined("m", power[n], "1"), "metre");
+        expect_spoken(n, joined("m", power[n], "99"), "metre to the 99");
+        expect_spoken(n, joined("m", power[n], "-99"), "metre to the minus 99");
+        expect_unspoken(n, joined("m", power[n], "100"), 5);
+        expect_spoken(n, joined(factor[n], "+99", "m"), "ten to the 99 metre");
+        expect_spoken(n, joined(factor[n], "-99", "m"), "ten to the minus 99 metre");
+        expect_unspoken(n, joined(factor[n], "-100", "m"), 5);
+        if (n == THALINGUZE_CDS)
+            continue;
+        expect_spoken(n, joined("m", power[n], "(1/60)"), "metre to the 1 over 60");
+        expect_spoken(n, joined("m", power[n], "(-5939/60)"), "metre to the minus 5939 over 60");
+        expect_unspoken(n, joined("m", power[n], "(5941/60)"), 5);
+    }
+    expect_spoken(THALINGUZE_CDS, "1m", "metre");
+}
+
+/* no label has longer words; those of more than 255 bytes are accepted, and no refusal is 13 */
+static void longest_words(void) {
+    const char *text = LONGEST_LABEL;
+    static char words[4096];
+    snprintf(words, sizeof words, "ten to the minus 9%s", times(31, " hecto astronomicalunit to the minus 1"));
+    strcat(words, " hecto unit");
+    strcat(words, times(125, " x"));
+    strcat(words, " end to the minus 1");
+    expect_spoken(THALINGUZE_CDS, text, words);
+    expect_words(THALINGUZE_CDS, text, MOST_WORDS - 1, 14, "");
+    expect_words(THALINGUZE_CDS, text, MOST_WORDS, 0, words);
+    expect_words(THALINGUZE_CDS, text, MOST_WORDS + 1, 0, words);
+    expect_words(THALINGUZE_CDS, text, 255, 14, "");
+    expect_words(THALINGUZE_CDS, text, 0, 14, "");
+}
+
 int main(void) {
     sizes();
     whole_exponents();
     fractions();
     factors();
+    sizes_of_words();
+    powers_of_words();
+    longest_words();
     /* 5 before 6, and 6 before 7 */
     expect(1, joined("(((((((((m(1/7)", times(9, ")"), ""), 5, 0, 0);
     expect(4, joined("(((((((((", terms(33, "."), ")))))))))"), 6, 0, 0);

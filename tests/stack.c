@@ -1,8 +1,9 @@
 /* How much stack a call takes at most: stack [LIMIT] [COUNT]. Reads labels of repeated parts, as deep and as long as 255 bytes allow,
-   under the notation numbers 0 to 5, and COUNT random labels, rewrites each in VOUnits and converts each to itself. Bytes are counted from
-   the caller's frame on. */
+   under the notation numbers 0 to 5, and COUNT random labels, rewrites each in VOUnits, converts each to itself and writes each as words. Bytes
+   are counted from the caller's frame on. */
 #define _POSIX_C_SOURCE 200809L
 #include "labels.h"
+#include "longest.h"
 #include "painted.h"
 
 enum { LIMIT = 48 * 1024, REPEATS = 5 };
@@ -34,39 +35,41 @@ static const struct shape shapes[] = {
     {"", "M", "", ""}, {"", "da", "", ""}, {"", "solMass.", "m", ""}, {"", "furlong ", "m", ""}, {"", "%.", "%", ""}, {"'", "m", "'", ""},
     {"da'", "m", "'", ""}, {"", "'m'.", "m", ""}, {"", "k'm'.", "m", ""}, {"", "('m'.", "m", ")"}, {"", "'m'**(1/2).", "'m'", ""}, {"", "'", "", ""},
     {"", "'m'", "", ""}, {"10**3'", "m", "'", ""},
+    /* the longest words */
+    {"", LONGEST_LABEL, "", ""},
 };
 
-static const struct {
+/* a call, and the label for which it took most */
+struct measured {
     const char *name;
     reader *call;
-} measured[] = {{"reading", thalinguze_read}, {"rewriting", rewrite_in_vounits}, {"converting", convert_to_itself}};
-
-struct worst {
-    const char *name;
     size_t use, size;
     uint32_t notation;
     uint8_t label[LABEL_ROOM];
 };
-static struct worst worst;
-static unsigned long calls;
+enum { CALLS = 4 };
+static struct measured measured[CALLS] = {
+    {.name = "reading", .call = thalinguze_read}, {.name = "rewriting", .call = rewrite_in_vounits},
+    {.name = "converting", .call = convert_to_itself}, {.name = "words", .call = write_as_words},
+};
+static unsigned long labels;
 
 /* with room for the whole record, and with less */
-static void measure_call(unsigned which, uint32_t notation, const uint8_t *label, size_t size) {
-    size_t record_size = calls % 2 ? calls % THALINGUZE_RECORD_SIZE : ROOM_FOR_RECORD;
-    size_t use = stack_use((struct call){measured[which].call, notation, label, size, record_size});
-    if (use <= worst.use)
+static void measure_call(struct measured *m, uint32_t notation, const uint8_t *label, size_t size) {
+    size_t record_size = labels % 2 ? labels % THALINGUZE_RECORD_SIZE : ROOM_FOR_RECORD;
+    size_t use = stack_use((struct call){m->call, notation, label, size, record_size});
+    if (use <= m->use)
         return;
-    worst.name = measured[which].name;
-    worst.use = use;
-    worst.size = size;
-    worst.notation = notation;
-    memcpy(worst.label, label, size);
+    m->use = use;
+    m->size = size;
+    m->notation = notation;
+    memcpy(m->label, label, size);
 }
 
 static void measure(uint32_t notation, const uint8_t *label, size_t size) {
-    for (unsigned which = 0; which < sizeof measured / sizeof measured[0]; which++)
-        measure_call(which, notation, label, size);
-    calls++;
+    for (unsigned i = 0; i < CALLS; i++)
+        measure_call(&measured[i], notation, label, size);
+    labels++;
 }
 
 /* the shape with as many repeats as fit into the bytes of a label, and with fewer */
@@ -87,13 +90,12 @@ static void measure_shape(const struct shape *shape, unsigned times) {
     }
 }
 
-static void print_worst(size_t limit) {
+static void print_label(const struct measured *m) {
     enum { SHOWN = 24 };
-    printf("%lu readings, rewritings and conversions each took at most %zu bytes of stack, %zu allowed: %s, notation %u, %zu bytes, ", calls,
-           worst.use, limit, worst.name, (unsigned)worst.notation, worst.size);
-    for (size_t i = 0; i < worst.size && i < SHOWN; i++)
-        putchar(worst.label[i] >= 0x20 && worst.label[i] < 0x7f ? worst.label[i] : '?');
-    printf("%s\n", worst.size > SHOWN ? ".." : "");
+    printf("%s: at most %zu bytes of stack, notation %u, %zu bytes, ", m->name, m->use, (unsigned)m->notation, m->size);
+    for (size_t i = 0; i < m->size && i < SHOWN; i++)
+        putchar(m->label[i] >= 0x20 && m->label[i] < 0x7f ? m->label[i] : '?');
+    printf("%s\n", m->size > SHOWN ? ".." : "");
 }
 
 int main(int argc, char **argv) {
@@ -111,6 +113,11 @@ int main(int argc, char **argv) {
         uint32_t notation = below(6);
         measure(notation, label, random_label(label, notation));
     }
-    print_worst(limit);
-    return worst.use > limit;
+    size_t most = 0;
+    for (unsigned i = 0; i < CALLS; i++) {
+        print_label(&measured[i]);
+        most = measured[i].use > most ? measured[i].use : most;
+    }
+    printf("%lu labels through each call took at most %zu bytes of stack, %zu allowed\n", labels, most, limit);
+    return most > limit;
 }

@@ -2,7 +2,7 @@
 use Prim.Native.Nat.{ℕ, suc, _+_, _≤_, _<_}
 use native.Mathlib.Omega.{arith}
 use native.Mathlib.Numerals.{add-one}
-use mathlib.Core.Path.{_≡_, refl, sym, ap, _∙_}
+use mathlib.Core.Path.{_≡_, refl, ap}
 use mathlib.Core.Bool.{Bool, true, false}
 use mathlib.Core.List.{List, [], _∷_, _++_, append-assoc, append-nil}
 use mathlib.Core.Option.{Option, none, some}
@@ -11,12 +11,8 @@ use lib.Seq.{take-suc-set}
 use Rattle.label.specs.Choice.{pick}
 use Rattle.label.specs.Ranges.{between}
 use Rattle.label.specs.Writing.{both-texts}
-use Rattle.label.proofs.Between.{between-none, between-cons, between-join}
+use Rattle.label.proofs.Between.{between-none, between-more}
 use Rattle.rewriting.specs.Texts.{text-room, too-long, formless, HoldsText, WritesText}
-
--- a part and the byte after it
-part-snoc : (s : List ℕ) (a i : ℕ) → a ≤ i → i < length s → between s a (i + 1) ≡ between s a i ++ getD s i 0 ∷ []
-part-snoc s a i h g = sym (between-join s a i (i + 1) h (omega arith)) ∙ rw (between-cons s i (i + 1) (omega arith) (omega arith), between-none s (i + 1))
 
 -- BOTH TEXTS
 
@@ -118,7 +114,7 @@ append-more {start = start} {i = i} {s = s} w h v = record {
   before = omega arith;
   within = w .within;
   room-left = v .kept;
-  written = rw (part-snoc s start i (w .after) (omega (arith, w .within))) (writes-both (w .written) v);
+  written = rw (between-more s start i (w .after) (omega (arith, w .within))) (writes-both (w .written) v);
 }
 
 pub append-all : {b c : List ℕ} {at start end r i : ℕ} {s : List ℕ} → Appending b at s start end c r i → end ≤ i → WritesText b at (some (between s start end)) c r

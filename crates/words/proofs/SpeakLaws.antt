@@ -23,7 +23,7 @@ use Rattle.reading.specs.Answers.{ReadingAnswer}
 use Rattle.rewriting.specs.declared.rewrite.Rewritten.{Rewritten}
 use Rattle.rewriting.specs.Buffers.{AnswerIs}
 use Rattle.rewriting.proofs.Delivering.{fitted-refusal}
-use Rattle.words.specs.Speech.{Spoken, Says, SaysWords, words-answer}
+use Rattle.words.specs.Speech.{HoldsBytes, Says, SaysWords, words-answer}
 
 -- WORDS WITHOUT THE FIRST SPACE
 
@@ -44,7 +44,7 @@ spaces-size (w ∷ ws) = omega arith
 
 -- WORDS THAT WERE WRITTEN
 
-module _ {t : List ℕ} {end : ℕ} (ws : List Word) (w : Spoken t end (spaced-words ws)) where
+module _ {t : List ℕ} {end : ℕ} (ws : List Word) (w : HoldsBytes t end (spaced-words ws)) where
   -- they are there after the first space
   words-there : joined-words ws ≡ between t 1 end
   words-there = joined-after ws ∙ ap (λ (l : List ℕ). drop 1 l) (sym (w .is)) ∙ drop-take 1 end t
@@ -105,7 +105,7 @@ module _ {n : ℕ} {s : List ℕ} {t : Lent} {x : List ℕ} {ds cs : List ℤ} {
     unfolding spoken
     label-short = let short = rw words-are at (spoken-short n s (sym (w .number) ∙ zero)) in omega (arith, short, spaces-size label-words)
 
-    pub room-for-words : {b c : List ℕ} {end : ℕ} → length b ≡ suc most-spoken → SaysWords b 0 label-words c end → Spoken c end (spaced-words label-words)
+    pub room-for-words : {b c : List ℕ} {end : ℕ} → length b ≡ suc most-spoken → SaysWords b 0 label-words c end → HoldsBytes c end (spaced-words label-words)
     room-for-words h v = v .says .adds [] (omega (arith, h, label-short)) (record { length-is = refl; is = refl })
 
     pub end-in-room : {b c : List ℕ} {end : ℕ} → length b ≡ suc most-spoken → SaysWords b 0 label-words c end → end ≤ length c

@@ -10,7 +10,7 @@ use Rattle.label.specs.Bytes.{space}
 use Rattle.label.specs.Ranges.{between}
 use Rattle.label.specs.Words.{Word, spaced-words, letter-words}
 use Rattle.label.proofs.Between.{between-none, between-more}
-use Rattle.words.specs.Speech.{Spoken, Says, SaysWords}
+use Rattle.words.specs.Speech.{HoldsBytes, Says, SaysWords}
 
 -- PIECES
 

@@ -10,14 +10,14 @@ use Rattle.label.specs.Words.{Word, spaced-words, joined-words}
 use Rattle.label.specs.Writing.{figures, Rewriting}
 
 -- the bytes x are the first of the array b, and end at the place `at`
-pub record Spoken (b : List ℕ) (at : ℕ) (x : List ℕ) : Type 0 where
+pub record HoldsBytes (b : List ℕ) (at : ℕ) (x : List ℕ) : Type 0 where
   pub length-is : length x ≡ at
   pub is : take at b ≡ x
 
 -- from the array b to c, and from the place at to r, the bytes s are written after what was there, if there is room for them
 pub record Says (b : List ℕ) (at : ℕ) (s : List ℕ) (c : List ℕ) (r : ℕ) : Type 0 where
   pub kept : length c ≡ length b
-  pub adds : (x : List ℕ) → length (x ++ s) ≤ length b → Spoken b at x → Spoken c r (x ++ s)
+  pub adds : (x : List ℕ) → length (x ++ s) ≤ length b → HoldsBytes b at x → HoldsBytes c r (x ++ s)
 
 -- the same of words, each after a space
 pub record SaysWords (b : List ℕ) (at : ℕ) (ws : List Word) (c : List ℕ) (r : ℕ) : Type 0 where

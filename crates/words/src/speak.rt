@@ -13,7 +13,7 @@ ghost use lib.ListN.{length};
 ghost use Rattle.label.specs.Words.{Word, spaced-words, most-spoken, speaking-into};
 ghost use Rattle.label.specs.Writing.{fitted, buffer-with};
 ghost use Rattle.rewriting.specs.Buffers.{AnswerIs};
-ghost use Rattle.words.specs.Speech.{Spoken, words-answer};
+ghost use Rattle.words.specs.Speech.{HoldsBytes, words-answer};
 
 // The most bytes that the words of a label have.
 pub const MOST_SPOKEN: usize = 1476;
@@ -24,9 +24,9 @@ const SPEECH_ROOM: usize = MOST_SPOKEN + 1;
 // Copies words that were written, without the space before the first, into the lent buffer, where they are not too long for it.
 fn deliver_words(text: &[u8], end: usize, buffer: &mut [u8]) -> Rewritten
     requires { ⌜ (end ≤ length (now text)) × (length (now text) ≡ suc most-spoken) ⌝ }
-    ensures { λ r. ⌜ ((ws : List Word) → Spoken (now (text .entry)) end (spaced-words ws)
+    ensures { λ r. ⌜ ((ws : List Word) → HoldsBytes (now (text .entry)) end (spaced-words ws)
         → AnswerIs (fitted (length (now (buffer .entry))) (words-answer ws)) r) ⌝ }
-    ensures { λ _. ⌜ ((ws : List Word) → Spoken (now (text .entry)) end (spaced-words ws)
+    ensures { λ _. ⌜ ((ws : List Word) → HoldsBytes (now (text .entry)) end (spaced-words ws)
         → now (buffer .exit) ≡ buffer-with (fitted (length (now (buffer .entry))) (words-answer ws)) (now (buffer .entry))) ⌝ }
 {
     if end == 0 {

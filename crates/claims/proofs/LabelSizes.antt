@@ -20,9 +20,8 @@ use Rattle.label.specs.Words.{factor-words}
 use Rattle.label.proofs.Basics.{none-some}
 use Rattle.label.proofs.Figures.{size-signed}
 use Rattle.label.proofs.General.{TimesBy, OverBy, G, WrappedBy, FactorBy, LabelBy}
-use Rattle.label.proofs.Sources.{integer-digits}
 use Rattle.claims.proofs.WordSizes.{cost, figures-few, figures-short, figures-within, minus-cost, minus-signed, minus-most, number-cost, ten-cost, no-ten-cost}
-use Rattle.claims.proofs.PowerSizes.{numeral-size, power-size, upright, unsigned-run, integer-size, exponent-in-text}
+use Rattle.claims.proofs.PowerSizes.{numeral-size, power-size, upright, unsigned-run, integer-digits, integer-size, exponent-in-text}
 
 -- UNITS
 

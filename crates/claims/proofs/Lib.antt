@@ -16,7 +16,9 @@ pub mod Scales
 pub mod Sizings
 pub mod Lines
 pub mod WordSizes
+pub mod ZeroNumbers
 pub mod PowerSizes
+pub mod ZeroPowers
 pub mod SymbolSizes
 pub mod LabelSizes
 pub mod Longest

@@ -5,24 +5,23 @@ use native.Mathlib.Nat.{mul-le-mul-left, one-le-pow}
 use mathlib.Core.Path.{_≡_, refl, sym, ap, _∙_}
 use mathlib.Core.Bool.{Bool, true, false}
 use mathlib.Core.List.{List, [], _∷_, _++_}
-use mathlib.Core.Option.{none, some}
-use lib.Dec.{T, leb}
+use mathlib.Core.Option.{some}
+use lib.Dec.{T}
 use lib.IntN.{natAbs}
 use lib.ListN.{length, length-append}
 use Rattle.label.specs.declared.Exponent.{Exponent}
 use Rattle.label.specs.declared.Rules.{Rules}
-use Rattle.label.specs.Bytes.{digit, digit-one, all, close-bracket, point, slash}
-use Rattle.label.specs.Choice.{pick}
-use Rattle.label.specs.Lexical.{Numeral, Written, unwritten, whole, decimal, fraction, Unsigned, Signed, Integer, Digits, Decimal, Bracketed, Power}
-use Rattle.label.specs.Limits.{number-from, number, signed, exclusive-or, negative, Ratio, ratio, in-sixtieths, sixtieths, bounded, exponent-in, exponent-of, denominator-of, lowest-terms, parts-of-one, most-sixtieths}
+use Rattle.label.specs.Bytes.{digit, digit-zero, digit-one, all, close-bracket, point, slash}
+use Rattle.label.specs.Lexical.{Numeral, Written, unwritten, whole, decimal, fraction, Unsigned, Signed, Integer, Digits, Sign, Decimal, Bracketed, Power}
+use Rattle.label.specs.Limits.{number-from, number, signed, exclusive-or, negative, Ratio, ratio, in-sixtieths, sixtieths, exponent-in, exponent-of, denominator-of, lowest-terms, parts-of-one}
 use Rattle.label.specs.Words.{exponent-words}
-use Rattle.label.proofs.Basics.{none-some, and-left, and-right, T-and, true→T, nonzero-digit}
-use Rattle.label.proofs.AsWritten.{whole-sixtieths}
+use Rattle.label.proofs.Basics.{T-and, true→T, nonzero-digit}
+use Rattle.label.proofs.Exponents.{whole-sixtieths, exponent-kept}
 use Rattle.label.proofs.Figures.{size-signed, lowered}
 use Rattle.label.proofs.General.{ExponentBy}
-use Rattle.label.proofs.Sources.{just-number, integer-digits}
 use Rattle.label.proofs.Texts.{all-append}
 use Rattle.claims.proofs.Lowest.{lowest}
+use Rattle.claims.proofs.ZeroNumbers.{unsigned-positive}
 use Rattle.claims.proofs.WordSizes.{cost, figures-within, minus-cost, minus-signed, over-cost, no-over-cost, exponent-cost}
 
 -- LOWEST TERMS
@@ -50,14 +49,7 @@ sixtieths-lowest turned q e h i z =
     }
 
 ratio-lowest : (turned : Bool) (q : Ratio) (e : Exponent) → 1 ≤ q .denominator → exponent-in turned q ≡ some e → NoMore turned q e
-unfolding exponent-in
-ratio-lowest turned q e h g = go (bounded q) refl g
-  where
-    go : (x : Bool) → bounded q ≡ x → pick x (some (record { 0 = signed (exclusive-or turned (q .negative)) (sixtieths q) })) none ≡ some e → NoMore turned q e
-    go false p g = absurd (none-some g)
-    go true p g =
-        let y : record { 0 = signed (exclusive-or turned (q .negative)) (sixtieths q) } ≡ e = cc in
-        sixtieths-lowest turned q e h (and-left (in-sixtieths q) (leb (sixtieths q) most-sixtieths) (and-right (q .short) _ p)) (ap (λ (x : Exponent). x .0) y)
+ratio-lowest turned q e h g = let k = exponent-kept turned q e g in sixtieths-lowest turned q e h (k .whole) (k .is)
 
 -- POWERS
 
@@ -85,6 +77,14 @@ pub unsigned-run : {l : List ℕ} → Unsigned l → DigitRun l
 unfolding all
 unsigned-run (Unsigned.unsigned {c = c} {s = s} t a) = record { some-digits = omega arith; all-digits = T-and (digit c) (all digit s) (true→T (nonzero-digit c t)) a }
 
+-- one digit or more, not all of them 0
+pub record PositiveRun (l : List ℕ) : Type 0 where
+  pub run : DigitRun l
+  pub positive : 1 ≤ number l
+
+positive-run : {l : List ℕ} → Unsigned l → PositiveRun l
+positive-run u = record { run = unsigned-run u; positive = unsigned-positive u }
+
 digits-run : {l : List ℕ} → Digits l → DigitRun l
 unfolding all
 digits-run (Digits.digits {c = c} {s = s} t a) = record { some-digits = omega arith; all-digits = T-and (digit c) (all digit s) t a }
@@ -92,9 +92,9 @@ digits-run (Digits.digits {c = c} {s = s} t a) = record { some-digits = omega ar
 -- the digits of a power
 pub data PowerRuns : Written → Type 0 where
   no-run : PowerRuns unwritten
-  whole-run : {n : Numeral} → DigitRun (n .digits) → PowerRuns (whole n)
+  whole-run : {n : Numeral} → PositiveRun (n .digits) → PowerRuns (whole n)
   decimal-runs : {n : Numeral} {ds : List ℕ} → DigitRun (n .digits) → DigitRun ds → PowerRuns (decimal n ds)
-  fraction-runs : {n : Numeral} {ds : List ℕ} → DigitRun (n .digits) → DigitRun ds → 1 ≤ number ds → PowerRuns (fraction n ds)
+  fraction-runs : {n : Numeral} {ds : List ℕ} → PositiveRun (n .digits) → PositiveRun ds → PowerRuns (fraction n ds)
 
 -- a power by its digits, in the bytes s
 pub record WrittenIn (s : List ℕ) (w : Written) : Type 0 where
@@ -106,18 +106,37 @@ integer-size (Integer.signed (Signed.positive u)) = omega arith
 integer-size (Integer.signed (Signed.negative u)) = omega arith
 integer-size (Integer.plain u) = omega arith
 
-integer-run : {s : List ℕ} {n : Numeral} → Integer s n → DigitRun (n .digits)
-integer-run i = unsigned-run (integer-digits i)
+pub integer-digits : {s : List ℕ} {n : Numeral} → Integer s n → Unsigned (n .digits)
+integer-digits (Integer.signed (Signed.positive u)) = u
+integer-digits (Integer.signed (Signed.negative u)) = u
+integer-digits (Integer.plain u) = u
+
+integer-run : {s : List ℕ} {n : Numeral} → Integer s n → PositiveRun (n .digits)
+integer-run i = positive-run (integer-digits i)
+
+-- a sign and a single 0
+sign-size-in : {s : List ℕ} {b : Bool} → Sign s b → sign-size b ≤ length s
+sign-size-in Sign.positive = omega arith
+sign-size-in Sign.negative = omega arith
+sign-size-in Sign.none = omega arith
+
+zero-run : DigitRun (digit-zero ∷ [])
+unfolding all digit
+zero-run = record { some-digits = omega arith; all-digits = tt }
 
 bracketed-in : {s : List ℕ} {w : Written} → Bracketed s w → WrittenIn s w
 unfolding power-size
 bracketed-in (Bracketed.an-integer {s = s} i) = record { by-runs = PowerRuns.whole-run (integer-run i); enough = omega (arith, length-append s (close-bracket ∷ []), integer-size i) }
 bracketed-in (Bracketed.a-decimal (Decimal.pointed {s = s} {d = ds} i g)) = record {
-  by-runs = PowerRuns.decimal-runs (integer-run i) (digits-run g);
+  by-runs = PowerRuns.decimal-runs (integer-run i .run) (digits-run g);
   enough = omega (arith, length-append (s ++ point ∷ ds) (close-bracket ∷ []), length-append s (point ∷ ds), integer-size i);
 }
+bracketed-in (Bracketed.a-decimal (Decimal.below-one {s = s} {d = ds} i g)) = record {
+  by-runs = PowerRuns.decimal-runs zero-run (digits-run g);
+  enough = omega (arith, length-append (s ++ digit-zero ∷ point ∷ ds) (close-bracket ∷ []), length-append s (digit-zero ∷ point ∷ ds), sign-size-in i);
+}
 bracketed-in (Bracketed.a-fraction {s = s} {d = ds} i g) = record {
-  by-runs = PowerRuns.fraction-runs (integer-run i) (unsigned-run g) (just-number g);
+  by-runs = PowerRuns.fraction-runs (integer-run i) (positive-run g);
   enough = omega (arith, length-append (s ++ slash ∷ ds) (close-bracket ∷ []), length-append s (slash ∷ ds), integer-size i);
 }
 
@@ -186,12 +205,12 @@ power-cost turned e PowerRuns.no-run h =
     unwritten-cost turned (cost (exponent-words e)) (whole-written (ratio-lowest turned (ratio unwritten) e (omega arith) h) (digit-one ∷ []) one-run (omega arith) refl)
 power-cost turned e (PowerRuns.whole-run {n = n} d) h =
     whole-cost turned (n .negative) (cost (exponent-words e)) (length (n .digits))
-    (whole-written (ratio-lowest turned (ratio (whole n)) e (omega arith) h) (n .digits) d (omega arith) refl)
+    (whole-written (ratio-lowest turned (ratio (whole n)) e (omega arith) h) (n .digits) (d .run) (omega arith) refl)
 power-cost turned e (PowerRuns.decimal-runs {n = n} {ds = ds} d f) h =
     let l = length-append (n .digits) ds in
     let r : DigitRun (n .digits ++ ds) = record { some-digits = omega (arith, d .some-digits); all-digits = all-append digit (n .digits) ds (d .all-digits) (f .all-digits) } in
     over-whole-cost turned (n .negative) (cost (exponent-words e)) (length (n .digits)) (length ds) (d .some-digits) (f .some-digits)
     (rw l at (over-written (ratio-lowest turned (ratio (decimal n ds)) e (one-le-pow (length ds) 10 (omega arith)) h) (n .digits ++ ds) r (omega arith)))
-power-cost turned e (PowerRuns.fraction-runs {n = n} {ds = ds} d f i) h =
-    over-whole-cost turned (n .negative) (cost (exponent-words e)) (length (n .digits)) (length ds) (d .some-digits) (f .some-digits)
-    (omega (arith, over-written (ratio-lowest turned (ratio (fraction n ds)) e i h) (n .digits) d (omega arith)))
+power-cost turned e (PowerRuns.fraction-runs {n = n} {ds = ds} d f) h =
+    over-whole-cost turned (n .negative) (cost (exponent-words e)) (length (n .digits)) (length ds) (d .run .some-digits) (f .run .some-digits)
+    (omega (arith, over-written (ratio-lowest turned (ratio (fraction n ds)) e (f .positive) h) (n .digits) (d .run) (omega arith)))

@@ -14,7 +14,7 @@ use Rattle.claims.proofs.Longest as longest
 use Rattle.claims.proofs.NameTests as names
 use Rattle.claims.proofs.Lowest.{lowest}
 use Rattle.claims.proofs.Sixtieths.{whole-divides, divides-whole}
-use Rattle.claims.specs.Claims.{ParseIsTheGrammar, ParseRefusesTheRest, Unambiguous, RefusalsAreTheConditions, BoundsAreKept, RefusalsAreEmpty, ZeroIsAcceptance, AcceptedContent, ExponentsAsWritten, AnswersComeFromTheTerms, KnownVerdict, LawfulVerdict, RecommendedVerdict, DimensionsAreSums, ScaleIsASum, AtMostOneKnownRest, SixtiethsAreTheBound, ShownInLowestTerms, GrammarsAgree, NotationsAgree, RewrittenReadsAsTheSame, RewritingRefusals, RefusedRewritesAreEmpty, FourteenIsAShortBuffer, EarlierWhateverTheBuffer, OwnNotationHasForms, RewrittenOnceForAll, MalformedLines, OtherLines, NamesFit, NamesDiffer, NamesAreLetters, NamesForAll, WordsTellApart, PlainWords, WordsRefusals, FourteenIfTheWordsAreLonger, SevenOrFourteen, WordsWithZero, NoWordsWithOthers, WordsAreShort, LongestWordsAreMet, RoomForAllWords, WordSamples}
+use Rattle.claims.specs.Claims.{ParseIsTheGrammar, ParseRefusesTheRest, Unambiguous, RefusalsAreTheConditions, BoundsAreKept, ZeroDecimalsRefused, ZeroDecimalsAlone, RefusalsAreEmpty, ZeroIsAcceptance, AcceptedContent, ExponentsAsWritten, AnswersComeFromTheTerms, KnownVerdict, LawfulVerdict, RecommendedVerdict, DimensionsAreSums, ScaleIsASum, AtMostOneKnownRest, SixtiethsAreTheBound, ShownInLowestTerms, GrammarsAgree, NotationsAgree, RewrittenReadsAsTheSame, RewritingRefusals, RefusedRewritesAreEmpty, FourteenIsAShortBuffer, EarlierWhateverTheBuffer, OwnNotationHasForms, RewrittenOnceForAll, MalformedLines, OtherLines, NamesFit, NamesDiffer, NamesAreLetters, NamesForAll, WordsTellApart, PlainWords, WordsRefusals, FourteenIfTheWordsAreLonger, SevenOrFourteen, WordsWithZero, NoWordsWithOthers, WordsAreShort, LongestWordsAreMet, RoomForAllWords, WordSamples}
 use Rattle.claims.proofs.Conversions.{factor-once}
 use Rattle.claims.proofs.ConversionAnswers.{gives-converts, number-due, due-refused, zero-undue}
 use Rattle.claims.proofs.Inverses.{converts-itself, converts-inverse}
@@ -25,6 +25,7 @@ use Rattle.claims.proofs.Lines as lines
 use Rattle.claims.proofs.SpokenSamples as spoken
 use Rattle.claims.proofs.TellApart as apart
 use Rattle.claims.proofs.Speaking as speaking
+use Rattle.claims.proofs.ZeroPowers as zeros
 use Rattle.claims.specs.Sizing.{SizesGiveTheFactor, FractionExactlyIf}
 use Rattle.claims.specs.Converting.{OneFactor, ConvertsExactlyIf, ConversionRefusals, RefusedConversions, ConversionSucceeds, ItselfByOne, BackByTheInverse, WithinLimits, ExponentsBounded, RatiosBounded}
 
@@ -42,6 +43,12 @@ refusals-are-the-conditions n s i l = number-refused n s i l
 
 pub bounds-are-kept : BoundsAreKept
 bounds-are-kept f ps = bounds-kept f ps
+
+pub zero-decimals-refused : ZeroDecimalsRefused
+zero-decimals-refused n s f ps d p m z = zeros.zero-decimals-refused n s f ps d p m z
+
+pub zero-decimals-alone : ZeroDecimalsAlone
+zero-decimals-alone n s f ps d p m = zeros.zero-decimals-alone n s f ps d p m
 
 pub refusals-are-empty : RefusalsAreEmpty
 refusals-are-empty n s i d = refused-empty d

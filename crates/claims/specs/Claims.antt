@@ -18,11 +18,11 @@ use Rattle.label.specs.Symbols.{known, known-cuts}
 use Rattle.label.specs.Lexical.{Factor, Part}
 use Rattle.label.specs.Grammar.{Derives}
 use Rattle.label.specs.Parse.{refused, parsed, parse}
-use Rattle.label.specs.Limits.{Ratio, in-sixtieths, lowest-terms}
-use Rattle.label.specs.Split.{Split, Valued, valued, Refused, Accepts}
+use Rattle.label.specs.Limits.{Ratio, ratio, in-sixtieths, lowest-terms}
+use Rattle.label.specs.Split.{Split, Valued, valued, Condition, Refused, Accepts}
 use Rattle.label.specs.Reading.{Term, reading-of, reading}
 use Rattle.label.specs.Agreement.{Gives}
-use Rattle.label.specs.Meaning.{_∈_, Prefixable, Named, unrecommended, Sum, BaseIn, dimension, PrimeIn, prime-in-ten, scale-exponent, Empty, AsWritten, PowerKeeps, FactorKeeps}
+use Rattle.label.specs.Meaning.{_∈_, Prefixable, Named, unrecommended, Sum, BaseIn, dimension, PrimeIn, prime-in-ten, scale-exponent, Empty, AsWritten, ZeroDecimal, PowerKeeps, FactorKeeps}
 use Rattle.label.specs.Writing.{rewriting, rewriting-into, Refuses, SameContent}
 use Rattle.label.specs.Lines.{fields, answer-fields, answer}
 use Rattle.label.specs.Words.{Word, spoken-prefixes, spoken-units, all-names, names-fit, words, spoken, most-spoken, speaking-into}
@@ -48,6 +48,14 @@ RefusalsAreTheConditions = (n : ℕ) (s : List ℕ) (i : ℕ) → 1 ≤ i → (r
 -- "a digit run, exponent or factor breaks its bound": a label has values exactly if none does.
 abbrev pub BoundsAreKept : Type 0
 BoundsAreKept = (f : Factor) (ps : List Part) → ((v : Valued) × (valued f ps ≡ some v)) ↔ (FactorKeeps f × ((p : Part) → p ∈ ps → PowerKeeps (p .power)))
+
+-- Document 02: "A decimal whose digits are all 0 is grammatical and gets refusal 5."
+abbrev pub ZeroDecimalsRefused : Type 0
+ZeroDecimalsRefused = (n : ℕ) (s : List ℕ) (f : Factor) (ps : List Part) → Derives n s f ps → (p : Part) → p ∈ ps → ZeroDecimal (p .power) → Condition 5 n s
+
+-- Of the powers that a grammar derives, these alone are 0: "Whole exponents and denominators stay as they were."
+abbrev pub ZeroDecimalsAlone : Type 0
+ZeroDecimalsAlone = (n : ℕ) (s : List ℕ) (f : Factor) (ps : List Part) → Derives n s f ps → (p : Part) → p ∈ ps → (ratio (p .power) .numerator ≡ 0) ↔ ZeroDecimal (p .power)
 
 -- "A refused reading has no terms, k = 0, no dimensions, scale 1 and all verdicts no."
 abbrev pub RefusalsAreEmpty : Type 0

@@ -18,7 +18,7 @@ use Rattle.label.specs.Limits.{number, short, Ratio, ratio, in-sixtieths
 use Rattle.label.specs.Split.{Placed, Valued, valued-unit, valued-units, valued-with, valued}
 use Rattle.label.specs.Meaning.{_∈_, digit-runs, PowerKeeps, FactorKeeps}
 use Rattle.label.proofs.Basics.{none-some, and-left, and-right}
-use Rattle.label.proofs.AsWritten.{whole-sixtieths}
+use Rattle.label.proofs.Exponents.{whole-sixtieths, exponent-kept}
 use Rattle.label.proofs.Refusals.{Values, valued-values}
 
 -- a value that is given
@@ -58,10 +58,6 @@ sixtieths-within q e h = go (ℕ-discrete (q .denominator) 0) (decLt most-sixtie
     go (no z) (yes d) = absurd (omega (arith, whole-sixtieths q e, mul-le-mul-right (q .denominator) d))
     go (no z) (no d) = omega arith
 
-given-bounded : (turned : Bool) (q : Ratio) → Given (exponent-in turned q) → bounded q ≡ true
-unfolding exponent-in
-given-bounded turned q g = pick-given (bounded q) _ g
-
 bounded-given : (turned : Bool) (q : Ratio) → bounded q ≡ true → Given (exponent-in turned q)
 unfolding exponent-in
 bounded-given turned q e = rw e (_, refl)
@@ -69,25 +65,18 @@ bounded-given turned q e = rw e (_, refl)
 power-keeps : (turned : Bool) (w : Written) → Given (exponent-of turned w) → PowerKeeps w
 unfolding exponent-of
 power-keeps turned w g =
-    let e = given-bounded turned (ratio w) g in
-    let a = and-left (ratio w .short) (in-sixtieths (ratio w) && leb (sixtieths (ratio w)) most-sixtieths) e in
-    let b = and-right (ratio w .short) (in-sixtieths (ratio w) && leb (sixtieths (ratio w)) most-sixtieths) e in
-    let c = and-left (in-sixtieths (ratio w)) (leb (sixtieths (ratio w)) most-sixtieths) b in
-    record {
-      runs = runs-short w a;
-      sixtieths = c;
-      size = numerator-within (ratio w) c (leb-true (sixtieths (ratio w)) most-sixtieths (and-right (in-sixtieths (ratio w)) (leb (sixtieths (ratio w)) most-sixtieths) b));
-    }
+    let k = exponent-kept turned (ratio w) (g .0) (g .1) in
+    record { runs = runs-short w (k .short); not-zero = k .not-zero; sixtieths = k .whole; size = numerator-within (ratio w) (k .whole) (k .small) }
 
 keeps-power : (turned : Bool) (w : Written) → PowerKeeps w → Given (exponent-of turned w)
 unfolding exponent-of
 keeps-power turned w k =
     bounded-given turned (ratio w)
-    (all-three (ratio w .short) (in-sixtieths (ratio w)) (leb (sixtieths (ratio w)) most-sixtieths)
-    (short-runs w (k .runs)) (k .sixtieths) (le-leb (sixtieths (ratio w)) most-sixtieths (sixtieths-within (ratio w) (k .sixtieths) (k .size))))
+    (all-four (ratio w .short) (leb 1 (ratio w .numerator)) (in-sixtieths (ratio w)) (leb (sixtieths (ratio w)) most-sixtieths) (short-runs w (k .runs))
+    (le-leb 1 (ratio w .numerator) (k .not-zero)) (k .sixtieths) (le-leb (sixtieths (ratio w)) most-sixtieths (sixtieths-within (ratio w) (k .sixtieths) (k .size))))
   where
-    all-three : (a b c : Bool) → a ≡ true → b ≡ true → c ≡ true → (a && (b && c)) ≡ true
-    all-three a b c p q r = rw (p, q, r)
+    all-four : (a b c d : Bool) → a ≡ true → b ≡ true → c ≡ true → d ≡ true → (a && (b && (c && d))) ≡ true
+    all-four a b c d p q r t = rw (p, q, r, t)
 
 -- FACTORS
 

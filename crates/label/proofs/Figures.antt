@@ -1,7 +1,7 @@
 -- Numbers written and read back: digits, exponents in lowest terms, and k.
 use Prim.Native.Nat.{ℕ, zero, suc, _+_, _*_, _-_, _/_, _%_, _^_, _≤_, _<_}
 use native.Mathlib.Omega.{arith}
-use native.Mathlib.Nat.{mod-lt, div-add-mod', mul-mod-left, mul-div-cancel}
+use native.Mathlib.Nat.{mod-lt, div-add-mod', mul-mod-left, mul-div-cancel, mul-le-mul}
 use mathlib.Core.Path.{_≡_, refl, ap, _∙_}
 use mathlib.Core.Bool.{Bool, true, false, _&&_}
 use mathlib.Core.List.{List, [], _∷_}
@@ -142,11 +142,11 @@ lowered e =
 -- READING BACK
 
 -- p/q is e sixtieths
-pub ratio-back : (b : Bool) (e p q : ℕ) → Lowered e p q → e ≤ most-sixtieths
+pub ratio-back : (b : Bool) (e p q : ℕ) → Lowered e p q → 1 ≤ e → e ≤ most-sixtieths
     → exponent-in false (record { negative = b; numerator = p; denominator = q; short = true }) ≡ some (record { 0 = signed b e })
 unfolding exponent-in
-ratio-back b e p q w h =
+ratio-back b e p q w l h =
     let c : parts-of-one * p ≡ e * q = omega (arith, w .equal) in
     let m : parts-of-one * p % q ≡ 0 = rw c (mul-mod-left e q) in
     let d : parts-of-one * p / q ≡ e = rw c (mul-div-cancel e (w .positive)) in
-    rw (m, d, le-leb e most-sixtieths h)
+    rw (le-leb 1 p (omega (arith, c, mul-le-mul l (w .positive))), m, d, le-leb e most-sixtieths h)

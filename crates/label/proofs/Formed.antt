@@ -20,7 +20,7 @@ use Rattle.label.specs.Choice.{pick}
 use Rattle.label.specs.Notations.{member, fractionless, notation}
 use Rattle.label.specs.Symbols.{Symbol, unknown, symbol}
 use Rattle.label.specs.Lexical.{Written, unwritten, whole, Part}
-use Rattle.label.specs.Limits.{signed, exclusive-or, Ratio, ratio, sixtieths, bounded, exponent-in, exponent-of, denominator-among, denominator-of, lowest-terms, most-bytes, parts-of-one, divisors}
+use Rattle.label.specs.Limits.{exclusive-or, Ratio, ratio, sixtieths, exponent-in, exponent-of, denominator-among, denominator-of, lowest-terms, most-bytes, parts-of-one}
 use Rattle.label.specs.Split.{Placed, Valued}
 use Rattle.label.specs.Reading.{term, Reading, refusal, reading-of, reading}
 use Rattle.label.specs.Letters.{prefix-letters}
@@ -32,6 +32,7 @@ use Rattle.label.proofs.Ruled.{RuledBy, derives-by, notation-ruled, Sui
 use Rattle.label.proofs.Refusals.{bounds, Values, valued-values}
 use Rattle.label.proofs.Places.{Located, AllLocated, label-located, located-there}
 use Rattle.label.proofs.Readings.{Accepted, Answered, answer-of, number-refused, accepted-reading}
+use Rattle.label.proofs.Exponents.{exponent-kept}
 use Rattle.label.proofs.Figures.{size-signed}
 use Rattle.label.proofs.Spelled.{read-as}
 use Rattle.label.proofs.Rewritten.{both-of, AllReady}
@@ -175,16 +176,11 @@ unfolding denominator-among
 among-one a qs e = rw (eq-eqb (a * 1 % parts-of-one) 0 e, denominator-among)
 
 whole-lowest : (b : Bool) (q : Ratio) (e : Exponent) → q .denominator ≡ 1 → exponent-in b q ≡ some e → lowest-terms e .denominator ≡ 1
-unfolding exponent-in lowest-terms denominator-of
-whole-lowest b q e d h = go (bounded q) h
-  where
-    go : (x : Bool) → pick x (some (record { 0 = signed (exclusive-or b (q .negative)) (sixtieths q) })) none ≡ some e → denominator-among (natAbs (e .0)) divisors ≡ 1
-    go false h = absurd (none-some h)
-    go true h =
-        let w : record { 0 = signed (exclusive-or b (q .negative)) (sixtieths q) } ≡ e = cc in
-        let z : natAbs (e .0) ≡ parts-of-one * q .numerator = rw (← w, size-signed (exclusive-or b (q .negative)) (sixtieths q), d) (div-one (parts-of-one * q .numerator)) in
-        let v : natAbs (e .0) * 1 ≡ parts-of-one * q .numerator = omega arith in
-        among-one (natAbs (e .0)) _ (rw v (mul-mod-right parts-of-one (q .numerator)))
+unfolding lowest-terms denominator-of
+whole-lowest b q e d h =
+    let z : natAbs (e .0) ≡ parts-of-one * q .numerator = rw (← (exponent-kept b q e h .is), size-signed (exclusive-or b (q .negative)) (sixtieths q), d) (div-one (parts-of-one * q .numerator)) in
+    let v : natAbs (e .0) * 1 ≡ parts-of-one * q .numerator = omega arith in
+    among-one (natAbs (e .0)) _ (rw v (mul-mod-right parts-of-one (q .numerator)))
 
 -- the rules of a notation without fractions
 no-powers : (a b c : Bool) → (a || (b || c)) ≡ false → (a ≡ false) × (b ≡ false) × (c ≡ false)

@@ -12,8 +12,8 @@ use Rattle.label.specs.declared.Rules.{Rules}
 use Rattle.label.specs.Bytes.{letter, digit, nonzero, all, same, caret, close-bracket, digit-one, digit-zero, minus, open-bracket, plus, point, quote, slash, star}
 use Rattle.label.specs.Choice.{pick}
 use Rattle.label.specs.Prefixes.{Prefix, prefixes, placed, prefix-named, is-some, prefix-name}
-use Rattle.label.specs.Lexical.{Numeral, Written, unwritten, whole, decimal, Factor, ten-to, zeros, Letters, PrefixName, Quoted, Unsigned, Signed, Integer, Digits, Decimal, Bracketed, Power, Plain}
-use Rattle.label.specs.Parse.{Found, found, then, mapped, byte, unsigned, digits, integer, closed, bracketed-on, bracketed, power, sign, starred, exponent, quoted-on, quoted, lettered, spelling, plain-digits, plain-factor, wrapped, starred-factor, ten-factor, ten, factor}
+use Rattle.label.specs.Lexical.{Numeral, Written, unwritten, whole, decimal, Factor, ten-to, zeros, Letters, PrefixName, Quoted, Unsigned, Signed, Integer, Digits, Sign, Decimal, Bracketed, Power, Plain}
+use Rattle.label.specs.Parse.{Found, none, found, then, mapped, byte, unsigned, digits, numeral, after-sign, integer, closed, pointed, bracketed-on, below-one, bracketed-or, bracketed, power, sign, starred, exponent, quoted-on, quoted, lettered, spelling, plain-digits, plain-factor, wrapped, starred-factor, ten-factor, ten, factor}
 use Rattle.label.proofs.Computing.{symbols-compute}
 use Rattle.label.proofs.General.{SpellingBy, ExponentBy, WrappedBy, FactorBy}
 use Rattle.label.proofs.Basics.{same-is, T→true, true→T, both, T-and, differs, nonzero-digit, digit-no-letter, Stops, run-of, past-of, NoStar, Ends, Unlettered}
@@ -29,7 +29,7 @@ unfolding digits
 digits-complete (Digits.digits {c = c} {s = s} t a) rest h = rw (T→true (digit c) t, run-of digit s rest a h, past-of digit s rest a h)
 
 pub integer-complete : {e : List ℕ} {n : Numeral} → Integer e n → (rest : List ℕ) → Stops digit rest → integer (e ++ rest) ≡ found n rest
-unfolding integer mapped nonzero
+unfolding integer after-sign mapped nonzero
 integer-complete (Integer.signed (Signed.positive u)) rest h = rw (unsigned-complete u rest h)
 integer-complete (Integer.signed (Signed.negative u)) rest h = rw (unsigned-complete u rest h)
 integer-complete (Integer.plain (Unsigned.unsigned {c = c} {s = s} t a)) rest h =
@@ -60,15 +60,29 @@ record Opened (s : List ℕ) (w : Written) (rest : List ℕ) : Type 0 where
   opens : s ≡ open-bracket ∷ inner
   finds : bracketed inner ≡ found w rest
 
+-- after any sign
+sign-complete : {A : Type 0} {s : List ℕ} {b : Bool} → Sign s b → (f : Bool → List ℕ → Found A) (t : List ℕ) → after-sign f (s ++ digit-zero ∷ t) ≡ f b (digit-zero ∷ t)
+unfolding after-sign
+sign-complete Sign.positive f t = refl
+sign-complete Sign.negative f t = refl
+sign-complete Sign.none f t = refl
+
+no-integer : {s : List ℕ} {b : Bool} → Sign s b → (t : List ℕ) → integer (s ++ digit-zero ∷ t) ≡ none
+unfolding integer mapped unsigned nonzero
+no-integer g t = sign-complete g (λ b u. mapped (numeral b) (unsigned u)) t
+
 -- a decimal and the closing bracket
 decimal-complete : {s d : List ℕ} {n : Numeral} → Decimal s n d → (rest : List ℕ) → bracketed (s ++ close-bracket ∷ rest) ≡ found (decimal n d) rest
-unfolding bracketed then bracketed-on digit
+unfolding bracketed bracketed-or bracketed-on pointed below-one then byte digit
+decimal-complete (Decimal.below-one {s = s} {d = d} g h) rest =
+    rw (append-assoc s (digit-zero ∷ point ∷ d) (close-bracket ∷ rest), no-integer g (point ∷ d ++ close-bracket ∷ rest), sign-complete g below-one (point ∷ d ++ close-bracket ∷ rest))
+    (closed-complete _ _ d rest (digits-complete h (close-bracket ∷ rest) (Stops.other refl)))
 decimal-complete (Decimal.pointed {s = s} {d = d} i g) rest =
     rw (append-assoc s (point ∷ d) (close-bracket ∷ rest), integer-complete i (point ∷ d ++ close-bracket ∷ rest) (Stops.other refl))
     (closed-complete _ _ d rest (digits-complete g (close-bracket ∷ rest) (Stops.other refl)))
 
 bracketed-complete : {s : List ℕ} {w : Written} → Bracketed s w → (rest : List ℕ) → Opened (s ++ rest) w rest
-unfolding bracketed then bracketed-on digit
+unfolding bracketed bracketed-or bracketed-on digit
 bracketed-complete (Bracketed.an-integer {s = s} i) rest =
     record { inner = _; opens = refl; finds = rw (append-assoc s (close-bracket ∷ []) rest, integer-complete i (close-bracket ∷ rest) (Stops.other refl)) }
 bracketed-complete (Bracketed.a-decimal {s = s} g) rest =

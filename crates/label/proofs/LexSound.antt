@@ -1,7 +1,7 @@
 -- Every token that the functions find has a derivation, and what is found is what the text begins with.
 use Prim.Native.Nat.{ℕ, suc, _+_, _-_}
 use native.Mathlib.Omega.{arith}
-use mathlib.Core.Path.{_≡_, refl, _∙_}
+use mathlib.Core.Path.{_≡_, refl, ap, _∙_}
 use mathlib.Core.Bool.{Bool, true, false, _&&_, _||_}
 use mathlib.Core.List.{List, [], _∷_, _++_, append-assoc, append-nil}
 use lib.Dec.{T, eqb}
@@ -11,8 +11,8 @@ use Rattle.label.specs.declared.Rules.{Rules}
 use Rattle.label.specs.Bytes.{letter, digit, nonzero, all, run, past, caret, close-bracket, digit-one, digit-zero, minus as minus-byte, open-bracket, percent, plus, point, quote, slash, star}
 use Rattle.label.specs.Choice.{pick}
 use Rattle.label.specs.Prefixes.{prefix-name}
-use Rattle.label.specs.Lexical.{Numeral, Written, unwritten, whole, decimal, fraction, Factor, ten-to, zeros, Letters, PrefixName, Quoted, Unsigned, Signed, Integer, Digits, Decimal, Bracketed, Power, Plain}
-use Rattle.label.specs.Parse.{Found, none, found, mapped, unsigned, digits, numeral, integer, closed, bracketed-on, bracketed, power, sign, starred, exponent, quoted-on, quoted, lettered, spelling, plain-digits, plain-factor, wrapped, starred-factor, ten-factor, ten, factor}
+use Rattle.label.specs.Lexical.{Numeral, Written, unwritten, whole, decimal, fraction, Factor, ten-to, zeros, Letters, PrefixName, Quoted, Unsigned, Signed, Integer, Digits, Sign, Decimal, Bracketed, Power, Plain}
+use Rattle.label.specs.Parse.{Found, none, found, mapped, unsigned, digits, numeral, after-sign, byte, integer, closed, pointed, bracketed-on, below-one, bracketed-or, bracketed, power, sign, starred, exponent, quoted-on, quoted, lettered, spelling, plain-digits, plain-factor, wrapped, starred-factor, ten-factor, ten, factor}
 use Rattle.label.proofs.General.{SpellingBy, ExponentBy, WrappedBy, FactorBy}
 use Rattle.label.proofs.Basics.{false-true, true→T, both, and-left, and-right, none-found, then-found, mapped-found, byte-found, closed-found, run-past, run-all}
 
@@ -82,7 +82,7 @@ signed-by b v c s n rest t make h =
 
 -- an integer from its first byte on, with a sign where that byte is one
 integer-by : (c : ℕ) (s : List ℕ) (n : Numeral) (rest : List ℕ) → integer (c ∷ s) ≡ found n rest → Begins (λ e n. pick (sign c) (Signed e n) (Integer e n)) (c ∷ s) n rest
-unfolding integer
+unfolding integer after-sign
 integer-by c s n rest h = go (eqb c plus) (eqb c minus-byte) refl refl h
   where
     minus : eqb c minus-byte ≡ true → mapped (numeral true) (unsigned s) ≡ found n rest → Begins Signed (c ∷ s) n rest
@@ -101,7 +101,7 @@ signed-sound : (c : ℕ) (s : List ℕ) (n : Numeral) (rest : List ℕ) → sign
 signed-sound c s n rest t h = rw t at (integer-by c s n rest h)
 
 pub integer-sound : (s : List ℕ) (n : Numeral) (rest : List ℕ) → integer s ≡ found n rest → (e : List ℕ) × Integer e n × (s ≡ e ++ rest)
-unfolding integer
+unfolding integer after-sign mapped unsigned
 integer-sound [] n rest h = absurd (none-found h)
 integer-sound (c ∷ s) n rest h = let w = integer-by c s n rest h in (w .0, any (sign c) (w .0) (w .1), w .2)
   where
@@ -119,31 +119,73 @@ after-integer i f P c v x s w rest t make ih h =
     after (After (v ∷ []) (After (open-bracket ∷ i) Bracketed)) (After (open-bracket ∷ i) Bracketed) c v s w rest t (λ e b. b)
     (closed-sound f (Itself P) (After (v ∷ []) (After (open-bracket ∷ i) Bracketed)) x s w rest (λ e d u. rw (← (u .1), ← (append-assoc i (v ∷ e) (close-bracket ∷ []))) (make e (u .0))) ih h)
 
+-- what follows the digits before a decimal's point, which are the text i with its sign
+pointed-sound : (n : Numeral) (i : List ℕ) → ((d : List ℕ) → Digits d → Decimal (i ++ point ∷ d) n d) → (s : List ℕ) (w : Written) (rest : List ℕ) → pointed n s ≡ found w rest
+    → Begins (After (open-bracket ∷ i) Bracketed) s w rest
+unfolding pointed
+pointed-sound n i make [] w rest h = absurd (none-found h)
+pointed-sound n i make (c ∷ s) w rest h = go (eqb c point) refl h
+  where
+    go : (x : Bool) → eqb c point ≡ x → pick x (closed (decimal n) (digits s)) none ≡ found w rest → Begins (After (open-bracket ∷ i) Bracketed) (c ∷ s) w rest
+    go true p h = after-integer i (decimal n) Digits c point (digits s) s w rest p (λ d t. Bracketed.a-decimal (make d t)) (λ d t q. digits-sound s d t q) h
+    go false p h = absurd (none-found h)
+
 -- what follows the integer i of a power in brackets
 bracketed-on-sound : (n : Numeral) (i : List ℕ) → Integer i n → (s : List ℕ) (w : Written) (rest : List ℕ) → bracketed-on n s ≡ found w rest
     → Begins (After (open-bracket ∷ i) Bracketed) s w rest
 unfolding bracketed-on
 bracketed-on-sound n i d [] w rest h = absurd (none-found h)
-bracketed-on-sound n i d (c ∷ s) w rest h = go (eqb c close-bracket) (eqb c point) (eqb c slash) refl refl refl h
+bracketed-on-sound n i d (c ∷ s) w rest h = go (eqb c close-bracket) (eqb c slash) refl refl h
   where
-    go : (x y z : Bool) → eqb c close-bracket ≡ x → eqb c point ≡ y → eqb c slash ≡ z
-        → pick x (found (whole n) s) (pick y (closed (decimal n) (digits s)) (pick z (closed (fraction n) (unsigned s)) none)) ≡ found w rest
+    go : (x y : Bool) → eqb c close-bracket ≡ x → eqb c slash ≡ y
+        → pick x (found (whole n) s) (pick y (closed (fraction n) (unsigned s)) (pointed n (c ∷ s))) ≡ found w rest
         → Begins (After (open-bracket ∷ i) Bracketed) (c ∷ s) w rest
-    go true y z p q o h =
+    go true y p q h =
         let same : whole n ≡ w = cc in
         (close-bracket ∷ [], rw same at (Bracketed.an-integer d), cc (eqb-true c close-bracket p))
-    go false true z p q o h = after-integer i (decimal n) Digits c point (digits s) s w rest q (λ e t. Bracketed.a-decimal (Decimal.pointed d t)) (λ e t q. digits-sound s e t q) h
-    go false false true p q o h = after-integer i (fraction n) Unsigned c slash (unsigned s) s w rest o (λ e t. Bracketed.a-fraction d t) (λ e t q. unsigned-sound s e t q) h
-    go false false false p q o h = absurd (none-found h)
+    go false true p q h = after-integer i (fraction n) Unsigned c slash (unsigned s) s w rest q (λ e t. Bracketed.a-fraction d t) (λ e t q. unsigned-sound s e t q) h
+    go false false p q h = pointed-sound n i (λ e t. Decimal.pointed d t) (c ∷ s) w rest h
 
--- a power in brackets, from after the opening one
+-- a sign, and what is found after it
+after-sign-sound : {A : Type 0} (f : Bool → List ℕ → Found A) (s : List ℕ) (a : A) (rest : List ℕ) → after-sign f s ≡ found a rest
+    → (b : Bool) × (t : List ℕ) × Begins Sign s b t × (f b t ≡ found a rest)
+unfolding after-sign
+after-sign-sound f [] a rest h = (false, [], ([], Sign.none, refl), h)
+after-sign-sound f (c ∷ s) a rest h = go (eqb c minus-byte) (eqb c plus) refl refl h
+  where
+    go : (x y : Bool) → eqb c minus-byte ≡ x → eqb c plus ≡ y → pick x (f true s) (pick y (f false s) (f false (c ∷ s))) ≡ found a rest
+        → (b : Bool) × (t : List ℕ) × Begins Sign (c ∷ s) b t × (f b t ≡ found a rest)
+    go true y p q h = (true, s, (minus-byte ∷ [], Sign.negative, cc (eqb-true c minus-byte p)), h)
+    go false true p q h = (false, s, (plus ∷ [], Sign.positive, cc (eqb-true c plus q)), h)
+    go false false p q h = (false, c ∷ s, ([], Sign.none, refl), h)
+
+-- a decimal that a single 0 begins, after the sign i
+below-one-sound : {i : List ℕ} {b : Bool} → Sign i b → (s : List ℕ) (w : Written) (rest : List ℕ) → below-one b s ≡ found w rest
+    → Begins (After (open-bracket ∷ i) Bracketed) s w rest
+unfolding below-one
+below-one-sound {i} {b} g s w rest h =
+    let m = then-found (byte digit-zero (numeral b (digit-zero ∷ [])) s) pointed w rest h in
+    let z = byte-found digit-zero (numeral b (digit-zero ∷ [])) (m .value) s (m .mid) (m .one) in
+    let d = pointed-sound (numeral b (digit-zero ∷ [])) (i ++ digit-zero ∷ []) (λ e t. rw (append-assoc i (digit-zero ∷ []) (point ∷ e)) (Decimal.below-one g t)) (m .mid) w rest (rw (← (z .0)) at (m .two)) in
+    (digit-zero ∷ d .0, rw (append-assoc i (digit-zero ∷ []) (d .0)) at (d .1), z .1 ∙ ap (λ (l : List ℕ). digit-zero ∷ l) (d .2))
+
+-- a power in brackets, from after the opening one, by the integer there
+bracketed-or-sound : (x : Found Numeral) (s : List ℕ) (w : Written) (rest : List ℕ) → integer s ≡ x → bracketed-or (after-sign below-one s) x ≡ found w rest
+    → Begins (After (open-bracket ∷ []) Bracketed) s w rest
+unfolding bracketed-or
+bracketed-or-sound none s w rest e h =
+    let m = after-sign-sound below-one s w rest h in
+    let i = m .2 in
+    let b = below-one-sound (i .1) (m .1) w rest (m .3) in
+    (i .0 ++ b .0, b .1, join-texts s (m .1) rest (i .0) (b .0) (i .2) (b .2))
+bracketed-or-sound (found n t) s w rest e h =
+    let i = integer-sound s n t e in
+    let b = bracketed-on-sound n (i .0) (i .1) t w rest h in
+    (i .0 ++ b .0, b .1, join-texts s t rest (i .0) (b .0) (i .2) (b .2))
+
 bracketed-sound : (s : List ℕ) (w : Written) (rest : List ℕ) → bracketed s ≡ found w rest → Begins (After (open-bracket ∷ []) Bracketed) s w rest
 unfolding bracketed
-bracketed-sound s w rest h =
-    let m = then-found (integer s) bracketed-on w rest h in
-    let i = integer-sound s (m .value) (m .mid) (m .one) in
-    let b = bracketed-on-sound (m .value) (i .0) (i .1) (m .mid) w rest (m .two) in
-    (i .0 ++ b .0, b .1, join-texts s (m .mid) rest (i .0) (b .0) (i .2) (b .2))
+bracketed-sound s w rest h = bracketed-or-sound (integer s) s w rest refl h
 
 pub power-sound : (s : List ℕ) (w : Written) (rest : List ℕ) → power s ≡ found w rest → (e : List ℕ) × Power e w × (s ≡ e ++ rest)
 unfolding power

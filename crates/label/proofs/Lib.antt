@@ -24,6 +24,7 @@ pub mod Refusals
 pub mod Places
 pub mod Readings
 pub mod Meanings
+pub mod Exponents
 pub mod AsWritten
 pub mod Bounds
 pub mod Lettering

@@ -16,72 +16,26 @@ use Rattle.label.specs.declared.Exponent.{Exponent}
 use Rattle.label.specs.declared.Tens.{Tens}
 use Rattle.label.specs.Choice.{pick}
 use Rattle.label.specs.Notations.{notation}
-use Rattle.label.specs.Lexical.{Numeral, Written, whole, Factor, no-factor, ten-to, zeros, Part, turned-all, Kind, item, more, product, quotient, Unsigned, Signed, Integer, Decimal, Bracketed, Power}
+use Rattle.label.specs.Lexical.{Written, whole, Factor, no-factor, ten-to, zeros, Part, turned-all, Kind, item, more, product, quotient}
 use Rattle.label.specs.Symbols.{symbol}
-use Rattle.label.specs.Limits.{number-from, number, signed, exclusive-or, Ratio, ratio, in-sixtieths, sixtieths, bounded, exponent-in, exponent-of, short, tens, k-of, most-bytes, most-terms, parts-of-one, largest-k, most-sixtieths}
+use Rattle.label.specs.Limits.{number, signed, exclusive-or, ratio, sixtieths, exponent-of, short, tens, k-of, most-bytes, most-terms, parts-of-one, largest-k}
 use Rattle.label.specs.Split.{Placed, Valued, valued-units, valued-with, valued, Condition}
 use Rattle.label.specs.Reading.{Term, term, Reading, refusal, reading-of, reading}
 use Rattle.label.specs.Parse.{inside}
 use Rattle.label.specs.Agreement.{Raised, raised-term}
 use Rattle.label.specs.Writing.{Writable, own-letters, writable, written, written-reading, SameContent, unless, sized, rewriting}
-use Rattle.label.proofs.Basics.{none-some, false-true, and-left, and-right, nonzero-bounds}
-use Rattle.label.proofs.General.{ExponentBy, G, LabelBy}
+use Rattle.label.proofs.Basics.{none-some, false-true, and-right}
+use Rattle.label.proofs.General.{G, LabelBy}
 use Rattle.label.proofs.Parts.{PartBy, AllParts, label-parts}
 use Rattle.label.proofs.Places.{Located, AllLocated, label-located, located-there}
 use Rattle.label.proofs.Owned.{spelling-sourced}
 use Rattle.label.proofs.Ruled.{RuledBy, derives-by}
 use Rattle.label.proofs.Refusals.{bounds, Values, valued-values, values-length}
 use Rattle.label.proofs.Readings.{Accepted, Answered, answer-of, refused-reading, accepted-reading}
+use Rattle.label.proofs.Exponents.{exponent-kept}
 use Rattle.label.proofs.Figures.{size-signed}
 use Rattle.label.proofs.Spelled.{WithinBounds}
 use Rattle.label.proofs.Rewritten.{ReadyToWrite, AllReady, raised, TextReadBack, written-back}
-
--- NO POWER IS ZERO
-
-grows : (n : ℕ) (s : List ℕ) → n ≤ number-from n s
-unfolding number-from
-grows n [] = omega arith
-grows n (c ∷ s) = omega (arith, grows (n * 10 + (c - 48)) s)
-
--- digits that begin with 1 to 9, whatever follows them
-some-number : {s : List ℕ} → Unsigned s → (u : List ℕ) → 1 ≤ number (s ++ u)
-unfolding number number-from
-some-number (Unsigned.unsigned {c = c} {s = s} t a) u = omega (arith, grows (0 * 10 + (c - 48)) (s ++ u), nonzero-bounds c t)
-
-pub just-number : {s : List ℕ} → Unsigned s → 1 ≤ number s
-unfolding number number-from
-just-number (Unsigned.unsigned {c = c} {s = s} t a) = omega (arith, grows (0 * 10 + (c - 48)) s, nonzero-bounds c t)
-
-pub integer-digits : {e : List ℕ} {n : Numeral} → Integer e n → Unsigned (n .digits)
-integer-digits (Integer.signed (Signed.positive u)) = u
-integer-digits (Integer.signed (Signed.negative u)) = u
-integer-digits (Integer.plain u) = u
-
--- a power other than zero
-record NonZero (w : Written) : Type 0 where
-  size : 1 ≤ ratio w .numerator
-
-whole-nonzero : {e : List ℕ} {n : Numeral} → Integer e n → NonZero (whole n)
-unfolding ratio
-whole-nonzero i = record { size = just-number (integer-digits i) }
-
-bracketed-nonzero : {e : List ℕ} {w : Written} → Bracketed e w → NonZero w
-unfolding ratio
-bracketed-nonzero (Bracketed.an-integer i) = whole-nonzero i
-bracketed-nonzero (Bracketed.a-decimal (Decimal.pointed {d = d} i f)) = record { size = some-number (integer-digits i) d }
-bracketed-nonzero (Bracketed.a-fraction i u) = record { size = just-number (integer-digits i) }
-
-power-nonzero : {e : List ℕ} {w : Written} → Power e w → NonZero w
-power-nonzero (Power.integer i) = whole-nonzero i
-power-nonzero (Power.bracketed b) = bracketed-nonzero b
-
-exponent-nonzero : {r : Rules} {e : List ℕ} {w : Written} → ExponentBy r e w → NonZero w
-unfolding ratio
-exponent-nonzero ExponentBy.none = record { size = omega arith }
-exponent-nonzero (ExponentBy.integer f i) = whole-nonzero i
-exponent-nonzero (ExponentBy.bracketed f b) = bracketed-nonzero b
-exponent-nonzero (ExponentBy.stars f p) = power-nonzero p
-exponent-nonzero (ExponentBy.caret f p) = power-nonzero p
 
 -- EXPONENTS
 
@@ -92,23 +46,13 @@ quotient-low n d h e = go (parts-of-one * n / d) refl
     go zero f = absurd (omega (arith, div-add-mod' (parts-of-one * n) d, ap (λ (x : ℕ). x * d) f))
     go (suc q) f = omega arith
 
-ratio-within : (b : Bool) (q : Ratio) (e : Exponent) → 1 ≤ q .numerator → exponent-in b q ≡ some e → WithinBounds e
-unfolding exponent-in
-ratio-within b q e h g = go (bounded q) refl g
-  where
-    go : (x : Bool) → bounded q ≡ x → pick x (some (record { 0 = signed (exclusive-or b (q .negative)) (sixtieths q) })) none ≡ some e → WithinBounds e
-    go false p g = absurd (none-some g)
-    go true p g =
-        let a = and-right (q .short) (in-sixtieths q && leb (sixtieths q) most-sixtieths) p in
-        let w : record { 0 = signed (exclusive-or b (q .negative)) (sixtieths q) } ≡ e = cc in
-        let m = eqb-true (parts-of-one * q .numerator % q .denominator) 0 (and-left (in-sixtieths q) (leb (sixtieths q) most-sixtieths) a) in
-        let l = leb-true (sixtieths q) most-sixtieths (and-right (in-sixtieths q) (leb (sixtieths q) most-sixtieths) a) in
-        let z = size-signed (exclusive-or b (q .negative)) (sixtieths q) in
-        rw (← w) (record { low = rw z (quotient-low (q .numerator) (q .denominator) h m); high = rw z l })
-
-exponent-within : (b : Bool) (w : Written) (e : Exponent) → NonZero w → exponent-of b w ≡ some e → WithinBounds e
+exponent-within : (b : Bool) (w : Written) (e : Exponent) → exponent-of b w ≡ some e → WithinBounds e
 unfolding exponent-of
-exponent-within b w e h g = ratio-within b (ratio w) e (h .size) g
+exponent-within b w e g =
+    let k = exponent-kept b (ratio w) e g in
+    let z = size-signed (exclusive-or b (ratio w .negative)) (sixtieths (ratio w)) in
+    let m = eqb-true (parts-of-one * ratio w .numerator % ratio w .denominator) 0 (k .whole) in
+    record { low = rw (← (k .is), z) (quotient-low (ratio w .numerator) (ratio w .denominator) (k .not-zero) m); high = rw (← (k .is), z) (k .small) }
 
 -- a unit of the label s as it is to be written
 abbrev pub writable-at : ℕ → List ℕ → Part → Exponent → Writable
@@ -121,7 +65,7 @@ writable-at n s p e = record {
 module _ {n : ℕ} {r : Rules} (o : RuledBy n r) (s : List ℕ) where
   part-ready : {p : Part} (e : Exponent) → PartBy r p → Located s p → exponent-of (p .turned) (p .power) ≡ some e → ReadyToWrite (writable-at n s p e)
   part-ready {p} e d w h = record {
-    within = exponent-within (p .turned) (p .power) e (exponent-nonzero (d .raised)) h;
+    within = exponent-within (p .turned) (p .power) e h;
     sourced = rw (located-there w) (spelling-sourced o (d .spelled));
   }
 

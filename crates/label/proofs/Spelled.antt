@@ -42,17 +42,17 @@ pub record PowerRead (r : Rules) (z : Exponent) (t : List ℕ) : Type 0 where
 
 unwritten-value : (e : ℕ) → Lowered e 1 1 → e ≤ most-sixtieths → exponent-of false unwritten ≡ some (record { 0 = signed false e })
 unfolding exponent-of ratio
-unwritten-value e w h = ratio-back false e 1 1 w h
+unwritten-value e w h = ratio-back false e 1 1 w (omega (arith, w .equal)) h
 
-whole-value : (b : Bool) (e p : ℕ) (ds : List ℕ) → Digited p ds → Lowered e p 1 → e ≤ most-sixtieths
+whole-value : (b : Bool) (e p : ℕ) (ds : List ℕ) → Digited p ds → Lowered e p 1 → 1 ≤ e → e ≤ most-sixtieths
     → exponent-of false (whole (record { negative = b; digits = ds })) ≡ some (record { 0 = signed b e })
 unfolding exponent-of ratio
-whole-value b e p ds d w h = rw (d .value, d .short) (ratio-back b e p 1 w h)
+whole-value b e p ds d w l h = rw (d .value, d .short) (ratio-back b e p 1 w l h)
 
-fraction-value : (b : Bool) (e p q : ℕ) (ds es : List ℕ) → Digited p ds → Digited q es → Lowered e p q → e ≤ most-sixtieths
+fraction-value : (b : Bool) (e p q : ℕ) (ds es : List ℕ) → Digited p ds → Digited q es → Lowered e p q → 1 ≤ e → e ≤ most-sixtieths
     → exponent-of false (fraction (record { negative = b; digits = ds }) es) ≡ some (record { 0 = signed b e })
 unfolding exponent-of ratio
-fraction-value b e p q ds es d f w h = rw (d .value, d .short, f .value, f .short) (ratio-back b e p q w h)
+fraction-value b e p q ds es d f w l h = rw (d .value, d .short, f .value, f .short) (ratio-back b e p q w l h)
 
 sign-quiet : (b : Bool) → T (all quiet (sign-text false b))
 unfolding all quiet admitted
@@ -89,7 +89,7 @@ module _ {y : Style} {r : Rules} (v : Suits y r) (b : Bool) {e p q : ℕ} (w : L
   whole-read o true h = record {
     power = whole (record { negative = b; digits = figures p });
     derived = v .brackets (wide (y .wrapped) b (y .fractions) h) (Bracketed.an-integer (integer-by b (numerator-of .unsigned)));
-    value = whole-value b e p (figures p) numerator-of o high;
+    value = whole-value b e p (figures p) numerator-of o low high;
     fine = fine-append (fine-quiet (y .raise) (v .agrees .quiet-raise)) (fine-brackets (sign-text false b ++ figures p) numeral-quiet);
   }
     where
@@ -98,7 +98,7 @@ module _ {y : Style} {r : Rules} (v : Suits y r) (b : Bool) {e p q : ℕ} (w : L
   whole-read o false h = record {
     power = whole (record { negative = b; digits = figures p });
     derived = v .whole (integer-by b (numerator-of .unsigned));
-    value = whole-value b e p (figures p) numerator-of o high;
+    value = whole-value b e p (figures p) numerator-of o low high;
     fine = fine-append (fine-quiet (y .raise) (v .agrees .quiet-raise)) (fine-quiet (sign-text false b ++ figures p) numeral-quiet);
   }
 
@@ -106,7 +106,7 @@ module _ {y : Style} {r : Rules} (v : Suits y r) (b : Bool) {e p q : ℕ} (w : L
   fraction-read h = record {
     power = fraction (record { negative = b; digits = figures p }) (figures q);
     derived = v .brackets (wide (y .wrapped)) (Bracketed.a-fraction (integer-by b (numerator-of .unsigned)) (denominator-of .unsigned));
-    value = fraction-value b e p q (figures p) (figures q) numerator-of denominator-of w high;
+    value = fraction-value b e p q (figures p) (figures q) numerator-of denominator-of w low high;
     fine = fine-append (fine-quiet (y .raise) (v .agrees .quiet-raise)) brackets;
   }
     where

@@ -9,7 +9,7 @@ use Rattle.label.specs.Prefixes.{prefix-name}
 
 -- WHAT A LABEL IS READ INTO
 
--- an integer as written
+-- an integer as written, or what is before a decimal's point
 pub record Numeral : Type 0 where
   pub negative : Bool
   pub digits : List ℕ
@@ -85,9 +85,16 @@ pub data Integer : List ℕ → Numeral → Type 0 where
 pub data Digits : List ℕ → Type 0 where
   digits : {c : ℕ} {s : List ℕ} → T (digit c) → T (all digit s) → Digits (c ∷ s)
 
--- "A decimal is an integer, a point, one or more digits."
+-- a plus, a minus or neither, and whether it is a minus
+pub data Sign : List ℕ → Bool → Type 0 where
+  positive : Sign (plus ∷ []) false
+  negative : Sign (minus ∷ []) true
+  none : Sign [] false
+
+-- "A decimal is an integer, a point, one or more digits." Document 02: "A decimal may now also start, after its sign, with a single 0 before the point."
 pub data Decimal : List ℕ → Numeral → List ℕ → Type 0 where
   pointed : {s d : List ℕ} {n : Numeral} → Integer s n → Digits d → Decimal (s ++ point ∷ d) n d
+  below-one : {s d : List ℕ} {b : Bool} → Sign s b → Digits d → Decimal (s ++ digit-zero ∷ point ∷ d) (record { negative = b; digits = digit-zero ∷ [] }) d
 
 -- "in brackets an integer, a decimal, or an integer, a slash and an unsigned integer"
 pub data Bracketed : List ℕ → Written → Type 0 where

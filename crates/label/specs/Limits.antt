@@ -94,9 +94,9 @@ in-sixtieths q = eqb (parts-of-one * q .numerator % q .denominator) 0
 abbrev pub sixtieths : Ratio → ℕ
 sixtieths q = parts-of-one * q .numerator / q .denominator
 
--- none of the bounds on an exponent is broken
+-- None of the bounds on an exponent is broken. Document 02: "A decimal whose digits are all 0 is grammatical and gets refusal 5."
 abbrev pub bounded : Ratio → Bool
-bounded q = q .short && (in-sixtieths q && leb (sixtieths q) most-sixtieths)
+bounded q = q .short && (leb 1 (q .numerator) && (in-sixtieths q && leb (sixtieths q) most-sixtieths))
 
 -- the exponent that a power stands for, turned over by slashes or not, if it keeps its bounds
 unfoldable pub exponent-in : Bool → Ratio → Option Exponent

@@ -3,13 +3,13 @@ use Prim.Native.Nat.{ℕ, _≤_, _*_, _^_}
 use Prim.Native.String.{String}
 use mathlib.Core.Path.{_≡_}
 use mathlib.Core.Bool.{true, false, _||_}
-use mathlib.Core.List.{List, [], _∷_, map}
+use mathlib.Core.List.{List, [], _∷_, _++_, map}
 use mathlib.Core.Option.{Option}
 use mathlib.Core.Logic.{_⊎_}
-use lib.Dec.{eqb}
+use lib.Dec.{T, eqb}
 use lib.IntN.{ℤ, pos, _+ℤ_, _*ℤ_}
 use lib.ListN.{getD, length}
-use Rattle.label.specs.Bytes.{bytes}
+use Rattle.label.specs.Bytes.{bytes, digit-zero, all}
 use Rattle.label.specs.Choice.{pick}
 use Rattle.label.specs.Notations.{cds, vounits}
 use Rattle.label.specs.Prefixes.{power-of}
@@ -115,9 +115,17 @@ digit-runs (whole n) = n .digits ∷ []
 digit-runs (decimal n ds) = n .digits ∷ ds ∷ []
 digit-runs (fraction n ds) = n .digits ∷ ds ∷ []
 
--- "Each digit run: at most 4 digits. An exponent in lowest terms has a denominator that divides 60, and a size of at most 99."
+-- "A decimal whose digits are all 0"
+abbrev pub ZeroDecimal : Written → Type 0
+ZeroDecimal unwritten = ⊥
+ZeroDecimal (whole n) = ⊥
+ZeroDecimal (decimal n ds) = T (all (λ c. eqb c digit-zero) (n .digits ++ ds))
+ZeroDecimal (fraction n ds) = ⊥
+
+-- "Each digit run: at most 4 digits. An exponent in lowest terms has a denominator that divides 60, and a size of at most 99." It is not 0.
 pub record PowerKeeps (w : Written) : Type 0 where
   pub runs : (ds : List ℕ) → ds ∈ digit-runs w → length ds ≤ 4
+  pub not-zero : 1 ≤ ratio w .numerator
   pub sixtieths : in-sixtieths (ratio w) ≡ true
   pub size : ratio w .numerator ≤ 99 * ratio w .denominator
 

@@ -46,12 +46,13 @@ digits (c ∷ s) = pick (digit c) (found (c ∷ run digit s) (past digit s)) non
 abbrev pub numeral : Bool → List ℕ → Numeral
 numeral b ds = record { negative = b; digits = ds }
 
+-- what f finds after a plus, a minus or neither; f is told whether it is a minus
+unfoldable pub after-sign : {A : Type 0} → (Bool → List ℕ → Found A) → List ℕ → Found A
+after-sign f [] = f false []
+after-sign f (c ∷ s) = pick (eqb c minus) (f true s) (pick (eqb c plus) (f false s) (f false (c ∷ s)))
+
 unfoldable pub integer : List ℕ → Found Numeral
-integer [] = none
-integer (c ∷ s) =
-    pick (eqb c minus) (mapped (numeral true) (unsigned s))
-    (pick (eqb c plus) (mapped (numeral false) (unsigned s))
-    (mapped (numeral false) (unsigned (c ∷ s))))
+integer s = after-sign (λ b t. mapped (numeral b) (unsigned t)) s
 
 -- POWERS
 
@@ -59,17 +60,30 @@ integer (c ∷ s) =
 unfoldable pub closed : {A B : Type 0} → (A → B) → Found A → Found B
 closed f x = then x (λ a s. byte close-bracket (f a) s)
 
+-- what follows the digits before a decimal's point: the point, digits, the closing bracket
+unfoldable pub pointed : Numeral → List ℕ → Found Written
+pointed n [] = none
+pointed n (c ∷ s) = pick (eqb c point) (closed (decimal n) (digits s)) none
+
 -- what follows the integer of a power in brackets
 unfoldable pub bracketed-on : Numeral → List ℕ → Found Written
 bracketed-on n [] = none
 bracketed-on n (c ∷ s) =
     pick (eqb c close-bracket) (found (whole n) s)
-    (pick (eqb c point) (closed (decimal n) (digits s))
-    (pick (eqb c slash) (closed (fraction n) (unsigned s)) none))
+    (pick (eqb c slash) (closed (fraction n) (unsigned s)) (pointed n (c ∷ s)))
+
+-- a decimal that a single 0 begins, from after its sign
+unfoldable pub below-one : Bool → List ℕ → Found Written
+below-one b s = then (byte digit-zero (numeral b (digit-zero ∷ [])) s) pointed
+
+-- what follows the integer of a power in brackets, or d where there is none
+unfoldable pub bracketed-or : Found Written → Found Numeral → Found Written
+bracketed-or d none = d
+bracketed-or d (found n s) = bracketed-on n s
 
 -- a power in brackets, from after the opening one
 unfoldable pub bracketed : List ℕ → Found Written
-bracketed s = then (integer s) bracketed-on
+bracketed s = bracketed-or (after-sign below-one s) (integer s)
 
 unfoldable pub power : List ℕ → Found Written
 power [] = none

@@ -23,8 +23,8 @@ negative-of : {w : Width} (v : ℤ) → SFits w v → ltZ v (pos 0) ≡ true →
 negative-of (pos n) f t = absurd (omega (arith, ltb-true n 0 t))
 negative-of (negsuc n) f t = record { n = n; is = refl; small = f .sfits }
 
-below-one : (n : ℕ) → negsuc 0 -ℤ negsuc n ≡ pos n
-below-one n =
+from-minus-one : (n : ℕ) → negsuc 0 -ℤ negsuc n ≡ pos n
+from-minus-one n =
     let e : ltb (suc n) 1 ≡ false = le-ltb (suc n) 1 (omega arith) in
     let q : suc n - 1 ≡ n = omega arith in
     rw (e, q)
@@ -37,7 +37,7 @@ module _ {w : Width} {v : ℤ} (f : SFits w v) (t : ltZ (toZ w (ofZ w v)) (pos 0
   negative = negative-of v f (rw (← toZ-ofZ f) t)
 
   rest-is : rest ≡ pos (negative .n)
-  rest-is = ap (λ (z : ℤ). negsuc 0 -ℤ z) (toZ-ofZ f ∙ negative .is) ∙ below-one (negative .n)
+  rest-is = ap (λ (z : ℤ). negsuc 0 -ℤ z) (toZ-ofZ f ∙ negative .is) ∙ from-minus-one (negative .n)
 
   pub rest-fits : SFits w rest
   rest-fits = rw rest-is (record { sfits = negative .small })

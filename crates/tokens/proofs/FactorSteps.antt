@@ -14,7 +14,7 @@ use Rattle.label.specs.declared.WrittenFactor.the-variants.{Absent, TenTo, Zero
 use Rattle.label.specs.Bytes.{caret, close-bracket, digit-zero, digit-one, open-bracket, star, digit, run-on, run, all}
 use Rattle.label.specs.Choice.{pick}
 use Rattle.label.specs.Lexical.{Numeral, Factor, ten-to}
-use Rattle.label.specs.Parse.{Found, none, mapped, closed, sign, integer, plain-digits, plain-factor, wrapped, starred-factor, ten-factor, ten, factor}
+use Rattle.label.specs.Parse.{Found, none, mapped, closed, unsigned, sign, after-sign, integer, plain-digits, plain-factor, wrapped, starred-factor, ten-factor, ten, factor}
 use Rattle.label.specs.Ranges.{between, numeral-in, Inside}
 use Rattle.scan.specs.Runs.{Run, is-zero}
 use Rattle.tokens.specs.declared.number.IntegerAt.{IntegerAt}
@@ -110,7 +110,7 @@ module _ {s : List ℕ} (i : IntegerAt) {r t : Bool} (b : r ≡ begins close-bra
 module _ (r : Rules) (s : List ℕ) (at : ℕ) where
   wrapped-is : wrapped r (drop at s)
       ≡ pick (eqb (getD s at 0) open-bracket && r .wrapped) (closed ten-to (integer (drop (at + 1) s))) (mapped ten-to (integer (drop at s)))
-  unfolding wrapped mapped integer
+  unfolding wrapped mapped integer after-sign unsigned
   wrapped-is =
       by-byte (wrapped r) (λ c w u. pick (eqb c open-bracket && r .wrapped) (closed ten-to (integer u)) (mapped ten-to (integer w))) (λ c u. refl) refl s at
 

@@ -2,20 +2,21 @@
 use Prim.Native.Nat.{ℕ, _≤_, _<_, _+_}
 use native.Mathlib.Omega.{arith}
 use mathlib.Core.Path.{_≡_, refl, ap, _∙_}
-use mathlib.Core.Bool.{Bool, true, false, not}
-use mathlib.Core.List.{List, [], _∷_}
+use mathlib.Core.Bool.{Bool, true, false, _||_, not}
+use mathlib.Core.List.{List, _∷_}
 use lib.Dec.{eqb}
 use lib.ListN.{length, drop, getD}
-use borrow.Author.Tests.{not-true, not-false, eq-eqb, ne-eqb}
+use borrow.Author.Tests.{not-true, not-false}
 use Rattle.label.specs.Bytes.{plus, minus, digit, nonzero, run, past}
 use Rattle.label.specs.Choice.{pick}
-use Rattle.label.specs.Parse.{Found, none, found, mapped, unsigned, digits, numeral, integer}
+use Rattle.label.specs.Parse.{Found, none, found, mapped, unsigned, digits, numeral, sign, after-sign, integer}
 use Rattle.label.specs.Ranges.{digits-in, Inside}
 use Rattle.scan.specs.Runs.{Run}
-use Rattle.label.proofs.Between.{byte-inside, byte-outside, between-cons}
+use Rattle.label.proofs.Basics.{false-true}
+use Rattle.label.proofs.Between.{byte-inside, between-cons}
 use Rattle.tokens.specs.declared.number.DigitsAt.{DigitsAt}
 use Rattle.tokens.specs.declared.number.IntegerAt.{IntegerAt}
-use Rattle.tokens.specs.Answers.{led, ReadsDigits, Signs, ReadsInteger, digits-found, integer-found}
+use Rattle.tokens.specs.Answers.{led, sign-end, ReadsDigits, Signs, ReadsInteger, digits-found, integer-found}
 use Rattle.tokens.proofs.Readers.{by-byte, mapped-by}
 
 abbrev pub no-digits : ℕ → DigitsAt
@@ -72,33 +73,36 @@ signs-start : {b : Bool} {d : DigitsAt} {o : IntegerAt} → Signs b d o → o .i
 signs-start w = rw (w .is)
 
 module _ (s : List ℕ) (at : ℕ) where
-  integer-is : integer (drop at s)
-      ≡ pick (eqb (getD s at 0) minus) (mapped (numeral true) (unsigned (drop (at + 1) s)))
-      (pick (eqb (getD s at 0) plus) (mapped (numeral false) (unsigned (drop (at + 1) s)))
-      (mapped (numeral false) (unsigned (drop at s))))
-  unfolding integer mapped unsigned
-  integer-is =
-      by-byte integer
-      (λ c w u. pick (eqb c minus) (mapped (numeral true) (unsigned u)) (pick (eqb c plus) (mapped (numeral false) (unsigned u)) (mapped (numeral false) (unsigned w))))
-      (λ c u. refl) refl s at
+  pub sign-end-ahead : at ≤ sign-end s at
+  sign-end-ahead = go (sign (getD s at 0))
+    where
+      go : (b : Bool) → at ≤ pick b (at + 1) at
+      go true = omega arith
+      go false = omega arith
 
-  -- after a minus, after a plus, and without a sign
-  from-digits : (b : Bool) (from : ℕ) {d : DigitsAt} {o : IntegerAt} → at ≤ from → integer (drop at s) ≡ mapped (numeral b) (unsigned (drop from s))
+  pub sign-end₁ : sign (getD s at 0) ≡ true → (at + 1 ≡ sign-end s at) × (at + 1 ≤ length s)
+  sign-end₁ e = (rw e, omega (arith, byte-inside s at (λ z. false-true (rw z at e))))
+
+  pub sign-end₂ : sign (getD s at 0) ≡ false → at ≤ length s → (at ≡ sign-end s at) × (at ≤ length s)
+  sign-end₂ e h = (rw e, h)
+
+  pub after-sign-is : {A : Type 0} (f : Bool → List ℕ → Found A) → after-sign f (drop at s) ≡ f (eqb (getD s at 0) minus) (drop (sign-end s at) s)
+  unfolding after-sign
+  after-sign-is f =
+      by-byte (after-sign f) (λ c w u. pick (eqb c minus) (f true u) (pick (eqb c plus) (f false u) (f false w))) (λ c u. refl) refl s at
+      ∙ go (eqb (getD s at 0) minus) (eqb (getD s at 0) plus)
+    where
+      go : (x y : Bool) → pick x (f true (drop (at + 1) s)) (pick y (f false (drop (at + 1) s)) (f false (drop at s))) ≡ f x (drop (pick (y || x) (at + 1) at) s)
+      go true true = refl
+      go true false = refl
+      go false true = refl
+      go false false = refl
+
+  pub integer-after : {b : Bool} {from : ℕ} {d : DigitsAt} {o : IntegerAt} → b ≡ eqb (getD s at 0) minus → from ≡ sign-end s at
       → ReadsDigits (unsigned (drop from s)) s from d → Signs b d o → ReadsInteger (integer (drop at s)) s at o
-  from-digits b from {d} {o} l e w v = record {
-    is = e ∙ ap (λ (x : Found (List ℕ)). mapped (numeral b) x) (w .is) ∙ signs-numeral s b d o v;
-    ahead = omega (arith, w .ahead, signs-start v);
+  unfolding integer
+  integer-after {b} {from} {d} {o} e f w v = record {
+    is = rw (← f, ← e) at (after-sign-is (λ x t. mapped (numeral x) (unsigned t))) ∙ ap (λ (x : Found (List ℕ)). mapped (numeral b) x) (w .is) ∙ signs-numeral s b d o v;
+    ahead = omega (arith, f, sign-end-ahead, w .ahead, signs-start v);
     inside = signs-inside v (w .inside);
   }
-
-  pub integer₁ : {d : DigitsAt} {o : IntegerAt} → getD s at 0 ≡ minus → ReadsDigits (unsigned (drop (at + 1) s)) s (at + 1) d → Signs true d o
-      → ReadsInteger (integer (drop at s)) s at o
-  integer₁ e w v = from-digits true (at + 1) (omega arith) (integer-is ∙ rw (eq-eqb _ _ e)) w v
-
-  pub integer₂ : {d : DigitsAt} {o : IntegerAt} → (getD s at 0 ≡ minus → ⊥) → getD s at 0 ≡ plus → ReadsDigits (unsigned (drop (at + 1) s)) s (at + 1) d → Signs false d o
-      → ReadsInteger (integer (drop at s)) s at o
-  integer₂ n e w v = from-digits false (at + 1) (omega arith) (integer-is ∙ rw (ne-eqb _ _ n, eq-eqb _ _ e)) w v
-
-  pub integer₃ : {d : DigitsAt} {o : IntegerAt} → (getD s at 0 ≡ minus → ⊥) → (getD s at 0 ≡ plus → ⊥) → ReadsDigits (unsigned (drop at s)) s at d → Signs false d o
-      → ReadsInteger (integer (drop at s)) s at o
-  integer₃ n m w v = from-digits false at (omega arith) (integer-is ∙ rw (ne-eqb _ _ n, ne-eqb _ _ m)) w v

@@ -3,7 +3,7 @@ use Prim.Native.Nat.{ℕ, _≤_, _<_, _+_}
 use native.Mathlib.Omega.{arith}
 use mathlib.Core.Path.{_≡_, refl, sym, ap, _∙_}
 use mathlib.Core.Bool.{Bool, true, false, _&&_, _||_, not}
-use mathlib.Core.List.{List}
+use mathlib.Core.List.{List, [], _∷_}
 use lib.Dec.{eqb}
 use lib.ListN.{length, drop, getD}
 use borrow.Author.Tests.{eq-eqb, ne-eqb, not-true, not-false}
@@ -11,16 +11,18 @@ use Rattle.label.specs.declared.Rules.{Rules}
 use Rattle.label.specs.declared.SignedDigits.{SignedDigits}
 use Rattle.label.specs.declared.WrittenPower.{WrittenPower}
 use Rattle.label.specs.declared.WrittenPower.the-variants.{Unwritten, Whole, Decimal, Fraction}
-use Rattle.label.specs.Bytes.{caret, close-bracket, open-bracket, point, slash, star, digit}
+use Rattle.label.specs.Bytes.{caret, close-bracket, digit-zero, minus, open-bracket, point, slash, star, digit}
 use Rattle.label.specs.Choice.{pick}
 use Rattle.label.specs.Lexical.{Written, unwritten, whole, decimal, fraction}
-use Rattle.label.specs.Parse.{Found, none, found, mapped, byte, closed, unsigned, digits, sign, integer, bracketed-on, bracketed, power, starred, exponent}
+use Rattle.label.specs.Parse.{Found, none, found, then, mapped, byte, closed, unsigned, digits, sign, after-sign, integer, pointed, bracketed-on, below-one, bracketed-or, bracketed, power, starred, exponent}
 use Rattle.label.specs.Ranges.{digits-in, numeral-in, written-in, Inside, PowerInside}
+use Rattle.label.proofs.Between.{between-one}
 use Rattle.scan.specs.Founds.{found-by}
 use Rattle.tokens.specs.declared.number.DigitsAt.{DigitsAt}
 use Rattle.tokens.specs.declared.number.IntegerAt.{IntegerAt}
 use Rattle.tokens.specs.declared.power.PowerAt.{PowerAt}
-use Rattle.tokens.specs.Answers.{digits-found, ReadsDigits, ReadsInteger, ReadsPower, begins, AsPower}
+use Rattle.tokens.specs.Answers.{digits-found, sign-end, ReadsDigits, ReadsInteger, ReadsPower, begins, AsPower}
+use Rattle.tokens.proofs.Numbers.{sign-end-ahead, after-sign-is}
 use Rattle.tokens.proofs.Readers.{by-byte, then-by, closed-room, closed-found, closed-none, on-from, read-to, integer-read}
 
 abbrev pub no-power : ℕ → PowerAt
@@ -56,54 +58,89 @@ unfolding closed
 closed-same f a ok t = then-by (λ x u. byte close-bracket (f x) u) ok a t ∙ sym (then-by (λ x u. byte close-bracket (f a) u) ok a t)
 
 module _ (s : List ℕ) (n : SignedDigits) (at : ℕ) where
+  -- after a point or a slash, digits and the closing bracket
+  on-digits : (f : List ℕ → Written) {x : Found (List ℕ)} {y : Found Written} {d : DigitsAt} {o : PowerAt} (p : WrittenPower) → f (digits-in s (d .digits)) ≡ written-in s p
+      → y ≡ closed f x → ReadsDigits x s (at + 1) d
+      → ReadsPower (closed (λ (ds : List ℕ). written-in s p) (digits-found s d)) s (d .digits .end) o
+      → ReadsPower y s at o
+  on-digits f {x} {d = d} p q e w v =
+      on-from
+      (e ∙ ap (λ (y : Found (List ℕ)). closed f y) (w .is) ∙ closed-same f (digits-in s (d .digits)) (d .ok) (drop (d .digits .end) s)
+      ∙ ap (λ (y : Written). closed (λ (ds : List ℕ). y) (digits-found s d)) q)
+      (omega (arith, w .ahead, w .inside .forward)) v
+
+  pointed-is : pointed (numeral-in s n) (drop at s) ≡ pick (eqb (getD s at 0) point) (closed (decimal (numeral-in s n)) (digits (drop (at + 1) s))) none
+  unfolding pointed
+  pointed-is = by-byte (pointed (numeral-in s n)) (λ c w u. pick (eqb c point) (closed (decimal (numeral-in s n)) (digits u)) none) (λ c u. refl) refl s at
+
+  pub pointed₁ : at ≤ length s → (getD s at 0 ≡ point → ⊥) → ReadsPower (pointed (numeral-in s n) (drop at s)) s at (no-power at)
+  pointed₁ h e = nothing-read h (pointed-is ∙ rw (ne-eqb _ _ e))
+
+  pub pointed₂ : {d : DigitsAt} {o : PowerAt} → getD s at 0 ≡ point → ReadsDigits (digits (drop (at + 1) s)) s (at + 1) d
+      → ReadsPower (closed (λ (ds : List ℕ). written-in s (Decimal n (d .digits))) (digits-found s d)) s (d .digits .end) o
+      → ReadsPower (pointed (numeral-in s n) (drop at s)) s at o
+  pointed₂ {d} e w v = on-digits (decimal (numeral-in s n)) (Decimal n (d .digits)) refl (pointed-is ∙ rw e) w v
+
   on-is : bracketed-on (numeral-in s n) (drop at s)
       ≡ pick (eqb (getD s at 0) close-bracket) (found (whole (numeral-in s n)) (drop (at + 1) s))
-      (pick (eqb (getD s at 0) point) (closed (decimal (numeral-in s n)) (digits (drop (at + 1) s)))
-      (pick (eqb (getD s at 0) slash) (closed (fraction (numeral-in s n)) (unsigned (drop (at + 1) s))) none))
-  unfolding bracketed-on
+      (pick (eqb (getD s at 0) slash) (closed (fraction (numeral-in s n)) (unsigned (drop (at + 1) s))) (pointed (numeral-in s n) (drop at s)))
+  unfolding bracketed-on pointed
   on-is =
       by-byte (bracketed-on (numeral-in s n))
       (λ c w u. pick (eqb c close-bracket) (found (whole (numeral-in s n)) u)
-      (pick (eqb c point) (closed (decimal (numeral-in s n)) (digits u)) (pick (eqb c slash) (closed (fraction (numeral-in s n)) (unsigned u)) none)))
+      (pick (eqb c slash) (closed (fraction (numeral-in s n)) (unsigned u)) (pointed (numeral-in s n) w)))
       (λ c u. refl) refl s at
 
   pub bracketed-on₁ : at < length s → getD s at 0 ≡ close-bracket → Inside s (n .digits)
       → ReadsPower (bracketed-on (numeral-in s n) (drop at s)) s at (record { ok = true; next = at + 1; power = Whole n })
   bracketed-on₁ h e i = read-to (omega arith) (omega arith) i (on-is ∙ rw (eq-eqb _ _ e))
 
-  -- after a point or a slash, digits and the closing bracket
-  on-digits : (f : List ℕ → Written) {x : Found (List ℕ)} {d : DigitsAt} {o : PowerAt} (p : WrittenPower) → f (digits-in s (d .digits)) ≡ written-in s p
-      → bracketed-on (numeral-in s n) (drop at s) ≡ closed f x → ReadsDigits x s (at + 1) d
-      → ReadsPower (closed (λ (ds : List ℕ). written-in s p) (digits-found s d)) s (d .digits .end) o
-      → ReadsPower (bracketed-on (numeral-in s n) (drop at s)) s at o
-  on-digits f {x} {d} p q e w v =
-      on-from
-      (e ∙ ap (λ (y : Found (List ℕ)). closed f y) (w .is) ∙ closed-same f (digits-in s (d .digits)) (d .ok) (drop (d .digits .end) s)
-      ∙ ap (λ (y : Written). closed (λ (ds : List ℕ). y) (digits-found s d)) q)
-      (omega (arith, w .ahead, w .inside .forward)) v
-
-  pub bracketed-on₂ : {d : DigitsAt} {o : PowerAt} → getD s at 0 ≡ point → ReadsDigits (digits (drop (at + 1) s)) s (at + 1) d
-      → ReadsPower (closed (λ (ds : List ℕ). written-in s (Decimal n (d .digits))) (digits-found s d)) s (d .digits .end) o
-      → ReadsPower (bracketed-on (numeral-in s n) (drop at s)) s at o
-  bracketed-on₂ {d} e w v = on-digits (decimal (numeral-in s n)) (Decimal n (d .digits)) refl (on-is ∙ rw e) w v
-
-  pub bracketed-on₃ : {d : DigitsAt} {o : PowerAt} → getD s at 0 ≡ slash → ReadsDigits (unsigned (drop (at + 1) s)) s (at + 1) d
+  pub bracketed-on₂ : {d : DigitsAt} {o : PowerAt} → getD s at 0 ≡ slash → ReadsDigits (unsigned (drop (at + 1) s)) s (at + 1) d
       → ReadsPower (closed (λ (ds : List ℕ). written-in s (Fraction n (d .digits))) (digits-found s d)) s (d .digits .end) o
       → ReadsPower (bracketed-on (numeral-in s n) (drop at s)) s at o
-  bracketed-on₃ {d} e w v = on-digits (fraction (numeral-in s n)) (Fraction n (d .digits)) refl (on-is ∙ rw e) w v
+  bracketed-on₂ {d} e w v = on-digits (fraction (numeral-in s n)) (Fraction n (d .digits)) refl (on-is ∙ rw e) w v
 
-  pub bracketed-on₄ : at ≤ length s → (getD s at 0 ≡ close-bracket → ⊥) → (getD s at 0 ≡ point → ⊥) → (getD s at 0 ≡ slash → ⊥)
-      → ReadsPower (bracketed-on (numeral-in s n) (drop at s)) s at (no-power at)
-  bracketed-on₄ h a b c = nothing-read h (on-is ∙ rw (ne-eqb _ _ a, ne-eqb _ _ b, ne-eqb _ _ c))
+  pub bracketed-on₃ : {o : PowerAt} → (getD s at 0 ≡ close-bracket → ⊥) → (getD s at 0 ≡ slash → ⊥)
+      → ReadsPower (pointed (numeral-in s n) (drop at s)) s at o
+      → ReadsPower (bracketed-on (numeral-in s n) (drop at s)) s at o
+  bracketed-on₃ a b v = on-from (on-is ∙ rw (ne-eqb _ _ a, ne-eqb _ _ b)) (omega arith) v
+
+-- a single 0 at a place
+module _ (s : List ℕ) (b : Bool) (at : ℕ) where
+  abbrev nought : SignedDigits
+  nought = record { negative = b; digits = record { start = at; end = at + 1 } }
+
+  below-one-is : below-one b (drop at s) ≡ pick (eqb (getD s at 0) digit-zero) (pointed (record { negative = b; digits = digit-zero ∷ [] }) (drop (at + 1) s)) none
+  unfolding below-one then byte
+  below-one-is =
+      by-byte (below-one b) (λ c w u. pick (eqb c digit-zero) (pointed (record { negative = b; digits = digit-zero ∷ [] }) u) none) (λ c u. go c u (eqb c digit-zero)) refl s at
+    where
+      go : (c : ℕ) (u : List ℕ) (x : Bool) → then (pick x (found (record { negative = b; digits = digit-zero ∷ [] }) u) none) pointed ≡ pick x (pointed (record { negative = b; digits = digit-zero ∷ [] }) u) none
+      go c u true = refl
+      go c u false = refl
+
+  pub below-one₁ : at ≤ length s → (getD s at 0 ≡ digit-zero → ⊥) → ReadsPower (below-one b (drop at s)) s at (no-power at)
+  below-one₁ h e = nothing-read h (below-one-is ∙ rw (ne-eqb _ _ e))
+
+  pub below-one₂ : {o : PowerAt} → at < length s → getD s at 0 ≡ digit-zero → ReadsPower (pointed (numeral-in s nought) (drop (at + 1) s)) s (at + 1) o
+      → ReadsPower (below-one b (drop at s)) s at o
+  below-one₂ h e v =
+      on-from (below-one-is ∙ rw e (ap (λ (ds : List ℕ). pointed (record { negative = b; digits = ds }) (drop (at + 1) s)) (sym (between-one s at h ∙ ap (λ (c : ℕ). c ∷ []) e)))) (omega arith) v
 
 module _ {s : List ℕ} {at : ℕ} {i : IntegerAt} (w : ReadsInteger (integer (drop at s)) s at i) where
   bracketed-is : bracketed (drop at s)
-      ≡ pick (i .ok) (bracketed-on (numeral-in s (i .integer)) (drop (i .integer .digits .end) s)) none
-  unfolding bracketed
-  bracketed-is = rw (w .is) (then-by bracketed-on (i .ok) (numeral-in s (i .integer)) (drop (i .integer .digits .end) s))
+      ≡ pick (i .ok) (bracketed-on (numeral-in s (i .integer)) (drop (i .integer .digits .end) s)) (after-sign below-one (drop at s))
+  unfolding bracketed bracketed-or
+  bracketed-is = rw (w .is) (go (i .ok))
+    where
+      go : (b : Bool) → bracketed-or (after-sign below-one (drop at s)) (found-by b (numeral-in s (i .integer)) (drop (i .integer .digits .end) s))
+          ≡ pick b (bracketed-on (numeral-in s (i .integer)) (drop (i .integer .digits .end) s)) (after-sign below-one (drop at s))
+      go true = refl
+      go false = refl
 
-  pub bracketed₁ : at ≤ length s → not (i .ok) ≡ true → ReadsPower (bracketed (drop at s)) s at (no-power at)
-  bracketed₁ h e = nothing-read h (bracketed-is ∙ rw (not-true (i .ok) e))
+  pub bracketed₁ : {b : Bool} {from : ℕ} {o : PowerAt} → not (i .ok) ≡ true → b ≡ eqb (getD s at 0) minus → from ≡ sign-end s at
+      → ReadsPower (below-one b (drop from s)) s from o → ReadsPower (bracketed (drop at s)) s at o
+  bracketed₁ e f g v = on-from (bracketed-is ∙ rw (not-true (i .ok) e) (rw (← g, ← f) at (after-sign-is s at below-one))) (omega (arith, g, sign-end-ahead s at)) v
 
   pub bracketed₂ : {o : PowerAt} → not (i .ok) ≡ false
       → ReadsPower (bracketed-on (numeral-in s (i .integer)) (drop (i .integer .digits .end) s)) s (i .integer .digits .end) o
@@ -114,7 +151,7 @@ module _ {s : List ℕ} {at : ℕ} {i : IntegerAt} (w : ReadsInteger (integer (d
 
 module _ (s : List ℕ) (at : ℕ) where
   power-is : power (drop at s) ≡ pick (eqb (getD s at 0) open-bracket) (bracketed (drop (at + 1) s)) (mapped whole (integer (drop at s)))
-  unfolding power mapped integer
+  unfolding power mapped integer after-sign unsigned
   power-is = by-byte power (λ c w u. pick (eqb c open-bracket) (bracketed u) (mapped whole (integer w))) (λ c u. refl) refl s at
 
   pub power₁ : {o : PowerAt} → getD s at 0 ≡ open-bracket → ReadsPower (bracketed (drop (at + 1) s)) s (at + 1) o → ReadsPower (power (drop at s)) s at o

@@ -8,7 +8,7 @@ use lib.ListN.{length, drop, getD}
 use Rattle.label.specs.Bytes.{digit, run, past}
 use Rattle.label.specs.Choice.{pick}
 use Rattle.label.specs.Lexical.{Numeral, Written, Factor}
-use Rattle.label.specs.Parse.{Found, none, found}
+use Rattle.label.specs.Parse.{Found, none, found, sign}
 use Rattle.label.specs.Ranges.{digits-in, numeral-in, written-in, factor-in, Inside, PowerInside, FactorInside}
 use Rattle.label.specs.declared.SignedDigits.{SignedDigits}
 use Rattle.label.specs.declared.WrittenPower.{WrittenPower}
@@ -34,6 +34,10 @@ pub record ReadsDigits (x : Found (List ℕ)) (s : List ℕ) (at : ℕ) (o : Dig
 -- the byte at `at`, if the flag is set, and the digits after it
 abbrev pub led : Bool → List ℕ → ℕ → Found (List ℕ)
 led first s at = pick first (found (getD s at 0 ∷ run digit (drop (at + 1) s)) (past digit (drop (at + 1) s))) none
+
+-- the place after a sign, or `at` where there is none
+abbrev pub sign-end : List ℕ → ℕ → ℕ
+sign-end s at = pick (sign (getD s at 0)) (at + 1) at
 
 -- digits under a sign
 pub record Signs (b : Bool) (d : DigitsAt) (o : IntegerAt) : Type 0 where

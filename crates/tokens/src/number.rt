@@ -4,12 +4,13 @@ use label::SignedDigits;
 use scan::class::byte_at;
 use scan::class::is_digit;
 use scan::class::is_nonzero;
+use scan::class::is_sign;
 ghost use Prim.Native.Nat.{_≤_, _<_};
 ghost use mathlib.Core.Path.{_≡_};
 ghost use mathlib.Core.Bool.{true};
 ghost use lib.ListN.{length, drop};
 ghost use Rattle.label.specs.Parse.{unsigned, digits, integer};
-ghost use Rattle.tokens.specs.Answers.{led, ReadsDigits, ReadsInteger, Signs};
+ghost use Rattle.tokens.specs.Answers.{led, sign-end, ReadsDigits, ReadsInteger, Signs};
 
 // Digits from a place on, or none where `ok` is false.
 pub struct DigitsAt {
@@ -69,17 +70,23 @@ pub fn under_sign(negative: bool, d: DigitsAt) -> IntegerAt
     }
 }
 
+// The place after a sign, or `at` where there is none.
+pub fn after_sign(s: &[u8], at: usize) -> usize
+    requires { ⌜ at ≤ length (now s) ⌝ }
+    ensures { λ r. ⌜ r ≡ sign-end (now (s .entry)) at ⌝ }
+    ensures inside { λ r. ⌜ r ≤ length (now (s .entry)) ⌝ }
+{
+    if is_sign(byte_at(s, at)) {
+        return at + 1;
+    }
+    at
+}
+
 // An optional sign, a digit 1 to 9, further digits.
 pub fn integer(s: &[u8], at: usize) -> IntegerAt
     requires { ⌜ at ≤ length (now s) ⌝ }
     ensures { λ o. ⌜ ReadsInteger (integer (drop at (now (s .entry)))) (now (s .entry)) at o ⌝ }
 {
-    let c = byte_at(s, at);
-    if c == b'-' {
-        return under_sign(true, unsigned(s, at + 1));
-    }
-    if c == b'+' {
-        return under_sign(false, unsigned(s, at + 1));
-    }
-    under_sign(false, unsigned(s, at))
+    let negative = byte_at(s, at) == b'-';
+    under_sign(negative, unsigned(s, after_sign(s, at)))
 }

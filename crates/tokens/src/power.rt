@@ -1,6 +1,7 @@
 // Powers.
 use crate::number::DigitsAt;
 use crate::number::IntegerAt;
+use crate::number::after_sign;
 use crate::number::integer;
 use crate::number::some_digits;
 use crate::number::unsigned;
@@ -18,7 +19,7 @@ ghost use mathlib.Core.Bool.{_||_};
 ghost use mathlib.Core.List.{List};
 ghost use lib.ListN.{length, drop};
 ghost use Rattle.label.specs.Bytes.{digit, close-bracket};
-ghost use Rattle.label.specs.Parse.{closed, sign, bracketed-on, bracketed, power, starred, exponent};
+ghost use Rattle.label.specs.Parse.{closed, sign, pointed, bracketed-on, below-one, bracketed, power, starred, exponent};
 ghost use Rattle.label.specs.Ranges.{numeral-in, written-in, Inside, PowerInside};
 ghost use Rattle.tokens.specs.Answers.{digits-found, begins, ReadsPower, AsPower};
 
@@ -59,6 +60,24 @@ pub fn closed_power(s: &[u8], d: DigitsAt, power: WrittenPower) -> PowerAt
     }
 }
 
+// What follows the digits before a decimal's point: the point, digits, the closing bracket.
+pub fn pointed(s: &[u8], n: SignedDigits, at: usize) -> PowerAt
+    requires { ⌜ at ≤ length (now s) ⌝ }
+    requires { ⌜ Inside (now s) (n .digits) ⌝ }
+    ensures { λ o. ⌜ ReadsPower (pointed (numeral-in (now (s .entry)) n) (drop at (now (s .entry)))) (now (s .entry)) at o ⌝ }
+{
+    if byte_at(s, at) != b'.' {
+        return PowerAt {
+            ok: false,
+            next: at,
+            power: WrittenPower::Unwritten,
+        };
+    }
+    let d = some_digits(s, at + 1);
+    let digits = d.digits;
+    closed_power(s, d, WrittenPower::Decimal(n, digits))
+}
+
 // What follows the integer of a power in brackets.
 pub fn bracketed_on(s: &[u8], n: SignedDigits, at: usize) -> PowerAt
     requires { ⌜ at ≤ length (now s) ⌝ }
@@ -73,21 +92,29 @@ pub fn bracketed_on(s: &[u8], n: SignedDigits, at: usize) -> PowerAt
             power: WrittenPower::Whole(n),
         };
     }
-    if c == b'.' {
-        let d = some_digits(s, at + 1);
-        let digits = d.digits;
-        return closed_power(s, d, WrittenPower::Decimal(n, digits));
-    }
     if c == b'/' {
         let d = unsigned(s, at + 1);
         let digits = d.digits;
         return closed_power(s, d, WrittenPower::Fraction(n, digits));
     }
-    PowerAt {
-        ok: false,
-        next: at,
-        power: WrittenPower::Unwritten,
+    pointed(s, n, at)
+}
+
+// A decimal that a single 0 begins, from after its sign.
+pub fn below_one(s: &[u8], negative: bool, at: usize) -> PowerAt
+    requires { ⌜ at ≤ length (now s) ⌝ }
+    ensures { λ o. ⌜ ReadsPower (below-one negative (drop at (now (s .entry)))) (now (s .entry)) at o ⌝ }
+{
+    if byte_at(s, at) != b'0' {
+        return PowerAt {
+            ok: false,
+            next: at,
+            power: WrittenPower::Unwritten,
+        };
     }
+    let end = at + 1;
+    let digits = DigitRange { start: at, end };
+    pointed(s, SignedDigits { negative, digits }, end)
 }
 
 // A power in brackets, from after the opening one.
@@ -97,11 +124,8 @@ pub fn bracketed(s: &[u8], at: usize) -> PowerAt
 {
     let i = integer(s, at);
     if !i.ok {
-        return PowerAt {
-            ok: false,
-            next: at,
-            power: WrittenPower::Unwritten,
-        };
+        let negative = byte_at(s, at) == b'-';
+        return below_one(s, negative, after_sign(s, at));
     }
     let n = i.integer;
     let d = n.digits;

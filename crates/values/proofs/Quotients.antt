@@ -40,21 +40,24 @@ module _ (t : Bool) (q : Ratio) where
   pub long-none : q .short ≡ false → exponent-in t q ≡ none
   long-none e = unbounded (rw e)
 
+  pub zero-none : q .numerator ≡ 0 → exponent-in t q ≡ none
+  zero-none e = unbounded (and-false (q .short) _ (rw e))
+
   -- not a whole number of sixtieths
   pub uneven-none : (60 * q .numerator % q .denominator ≡ 0 → ⊥) → exponent-in t q ≡ none
-  uneven-none f = unbounded (and-false (q .short) _ (rw (ne-eqb _ 0 f)))
+  uneven-none f = unbounded (and-false (q .short) _ (and-false (leb 1 (q .numerator)) _ (rw (ne-eqb _ 0 f))))
 
   pub large-none : 5_940 < 60 * q .numerator / q .denominator → exponent-in t q ≡ none
-  large-none h = unbounded (and-false (q .short) _ (and-false (in-sixtieths q) _ (lt-leb _ 5_940 h)))
+  large-none h = unbounded (and-false (q .short) _ (and-false (leb 1 (q .numerator)) _ (and-false (in-sixtieths q) _ (lt-leb _ 5_940 h))))
 
   -- z is what the machine holds of n sixtieths under the sign b
-  pub some-kept : (b : Bool) (n : ℕ) (z : ℤ) → q .short ≡ true → 60 * q .numerator % q .denominator ≡ 0 →
+  pub some-kept : (b : Bool) (n : ℕ) (z : ℤ) → q .short ≡ true → (q .numerator ≡ 0 → ⊥) → 60 * q .numerator % q .denominator ≡ 0 →
       n ≡ 60 * q .numerator / q .denominator → n ≤ 5_940 → b ≡ exclusive-or t (q .negative) → z ≡ signed b n →
       some (exponent (toZ w32 (ofZ w32 z))) ≡ exponent-in t q
   unfolding exponent-in
-  some-kept b n z e f g h i j =
+  some-kept b n z e l f g h i j =
       ap (λ (y : ℤ). some (exponent y)) (told z b n (omega arith) j)
-      ∙ rw (e, eq-eqb (60 * q .numerator % q .denominator) 0 f, ← g, le-leb n 5_940 h, i)
+      ∙ rw (e, le-leb 1 (q .numerator) (omega arith), eq-eqb (60 * q .numerator % q .denominator) 0 f, ← g, le-leb n 5_940 h, i)
 
 -- WHAT A QUOTIENT HOLDS
 

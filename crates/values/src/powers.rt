@@ -64,6 +64,9 @@ fn exponent_in(turned: bool, q: Quotient) -> MaybeExponent
     if !q.short {
         return none();
     }
+    if q.numerator == 0 {
+        return none();
+    }
     let parts = PARTS_OF_ONE * q.numerator;
     if remainder(parts, q.denominator) != 0 {
         return none();

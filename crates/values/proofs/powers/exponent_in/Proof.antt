@@ -2,7 +2,7 @@
 use borrow.Author.Tests.{not-true, not-false}
 use mathlib.Core.Path.{sym, _∙_}
 use Rattle.values.specs.Quotients.{ratio-of}
-use Rattle.values.proofs.Quotients.{long-none, uneven-none, large-none, some-kept}
+use Rattle.values.proofs.Quotients.{long-none, zero-none, uneven-none, large-none, some-kept}
 use Rattle.label.proofs.Basics.{false-true}
 use borrow.Author.Needs.{needs}
 use Rattle.values.proofs.powers.exponent_in.Statement.{statement}
@@ -17,24 +17,19 @@ returns c =
     let e = not-true _ (c .before .if1 .taken) in
     (rw (c .none .ensures .0) (sym (long-none (a .turned) (ratio-of (a .q)) e)), λ _. c .none .ensures .1)
 
-mul-parts : tie.Need-mul-parts
-mul-parts c = search needs
-
-remainder-requires : tie.Need-remainder-requires
-remainder-requires c κs = search needs
-
 none-requires-2 : tie.Need-none-requires-2
 none-requires-2 c κs = search needs
 
 returns-2 : tie.Need-returns-2
 returns-2 c =
-    let a = c .before .before .before .before .before .before .args in
-    let f = c .before .if2 .taken in
-    let e = c .before .before .remainder .ensures in
-    (rw (c .none2 .ensures .0) (sym (uneven-none (a .turned) (ratio-of (a .q)) (λ z. f (e ∙ z)))), λ _. c .none2 .ensures .1)
+    let a = c .before .before .before .before .before .args in
+    (rw (c .none2 .ensures .0) (sym (zero-none (a .turned) (ratio-of (a .q)) (c .before .if2 .taken))), λ _. c .none2 .ensures .1)
 
-divided-requires : tie.Need-divided-requires
-divided-requires c κs = search needs
+mul-parts : tie.Need-mul-parts
+mul-parts c = search needs
+
+remainder-requires : tie.Need-remainder-requires
+remainder-requires c κs = search needs
 
 none-requires-3 : tie.Need-none-requires-3
 none-requires-3 c κs = search needs
@@ -42,9 +37,22 @@ none-requires-3 c κs = search needs
 returns-3 : tie.Need-returns-3
 returns-3 c =
     let a = c .before .before .before .before .before .before .before .before .args in
-    let h = c .before .if3 .taken in
+    let f = c .before .if3 .taken in
+    let e = c .before .before .remainder .ensures in
+    (rw (c .none3 .ensures .0) (sym (uneven-none (a .turned) (ratio-of (a .q)) (λ z. f (e ∙ z)))), λ _. c .none3 .ensures .1)
+
+divided-requires : tie.Need-divided-requires
+divided-requires c κs = search needs
+
+none-requires-4 : tie.Need-none-requires-4
+none-requires-4 c κs = search needs
+
+returns-4 : tie.Need-returns-4
+returns-4 c =
+    let a = c .before .before .before .before .before .before .before .before .before .before .args in
+    let h = c .before .if4 .taken in
     let e = c .before .before .divided .ensures in
-    (rw (c .none3 .ensures .0) (sym (large-none (a .turned) (ratio-of (a .q)) (rw e at h))), λ _. c .none3 .ensures .1)
+    (rw (c .none4 .ensures .0) (sym (large-none (a .turned) (ratio-of (a .q)) (rw e at h))), λ _. c .none4 .ensures .1)
 
 exclusive-or-requires : tie.Need-exclusive-or-requires
 exclusive-or-requires c κs = search needs
@@ -55,14 +63,14 @@ cast-signed c = search needs
 signed-requires : tie.Need-signed-requires
 signed-requires c κs = search needs
 
-returns-4 : tie.Need-returns-4
-returns-4 c =
+returns-5 : tie.Need-returns-5
+returns-5 c =
     let sized = c .before .before .before in
     let left = sized .before .before in
-    let whole = left .before .before in
-    let a = whole .before .before .args in (
-      some-kept (a .turned) (ratio-of (a .q)) _ _ _ (not-false _ (whole .if1 .left)) (sym (left .remainder .ensures) ∙ sized .before .if2 .left) (sized .divided .ensures)
-          (c .before .before .if3 .left)
+    let nonzero = left .before .before in
+    let a = nonzero .before .before .before .before .args in (
+      some-kept (a .turned) (ratio-of (a .q)) _ _ _ (not-false _ (nonzero .before .before .if1 .left)) (nonzero .if2 .left) (sym (left .remainder .ensures) ∙ sized .before .if3 .left) (sized .divided .ensures)
+          (c .before .before .if4 .left)
           (c .before .exclusive-or .ensures)
           (c .signed .ensures),
       λ e. absurd (false-true (sym e)),
@@ -74,14 +82,16 @@ exponent-in-spec =
     (tie.spec
     none-requires
     returns
-    mul-parts
-    remainder-requires
     none-requires-2
     returns-2
-    divided-requires
+    mul-parts
+    remainder-requires
     none-requires-3
     returns-3
+    divided-requires
+    none-requires-4
+    returns-4
     exclusive-or-requires
     cast-signed
     signed-requires
-    returns-4)
+    returns-5)

@@ -1,6 +1,6 @@
 #!/usr/bin/env python3
-"""A second implementation of document 01 and its decisions, and of words in document 02, to compare the library with. It was written without
-sight of the library.
+"""A second implementation of document 01 and its decisions, and of W1 and W2 in document 02, to compare the library with. It was written
+without sight of the library.
 
 usage: independent.py [read]            reads lines NOTATION HEX, and prints each with its reading, as `thalinguze read --vectors` does
        independent.py rewrite           reads lines SOURCE HEX TARGET SIZE, and prints each with NUMBER LENGTH HEX
@@ -9,6 +9,7 @@ usage: independent.py [read]            reads lines NOTATION HEX, and prints eac
        independent.py lines             the line program: standard input to standard output
        independent.py symbols           prints the lines of vectors/symbols.tsv
        independent.py spoken            prints the lines of vectors/words.tsv
+       independent.py decimals          prints the lines of vectors/decimals.tsv
        independent.py cases KIND SEED COUNT [all]
                                         prints cases for read, rewrite, convert, words or lines: those at an edge, COUNT others, and with
                                         `all` every unit with every prefix in every notation (words), also into every notation (rewrite),
@@ -20,8 +21,8 @@ usage: independent.py [read]            reads lines NOTATION HEX, and prints eac
 HEX is a label's bytes in hexadecimal, `-` if there are none. SIZE is the lent buffer's length."""
 import sys
 
-from second import (convert_cases, converting, line_cases, lines, read_cases, reading, rewrite_cases, speaking, spoken, word_cases,
-                    writing)
+from second import (convert_cases, converting, decimal_cases, line_cases, lines, read_cases, reading, rewrite_cases, speaking, spoken,
+                    word_cases, writing)
 from second.symbols import spellings
 
 
@@ -74,11 +75,17 @@ def print_lines():
     sys.stdout.buffer.write(lines.answers(sys.stdin.buffer.read()))
 
 
+def print_stored(labels):
+    for notation, data in labels:
+        print(notation, data.hex(), reading.shown(notation, data))
+
+
 def print_symbols():
-    for notation in reading.GRAMMARS:
-        for spelling in spellings(notation):
-            data = spelling.encode('ascii')
-            print(notation, data.hex(), reading.shown(notation, data))
+    print_stored((notation, spelling.encode('ascii')) for notation in reading.GRAMMARS for spelling in spellings(notation))
+
+
+def print_decimals():
+    print_stored(decimal_cases.stored())
 
 
 CASES = {'read': read_cases, 'rewrite': rewrite_cases, 'convert': convert_cases, 'words': word_cases, 'lines': line_cases}
@@ -118,7 +125,7 @@ def print_met(least, *files):
 
 
 MODES = {'read': print_readings, 'rewrite': print_rewritings, 'convert': print_conversions, 'words': print_words, 'lines': print_lines,
-         'symbols': print_symbols, 'spoken': print_spoken, 'cases': print_cases, 'met': print_met}
+         'symbols': print_symbols, 'spoken': print_spoken, 'decimals': print_decimals, 'cases': print_cases, 'met': print_met}
 
 
 if __name__ == '__main__':

@@ -116,6 +116,28 @@ static void fractions(void) {
     }
 }
 
+/* decimals below one: a single 0 before the point, and not all digits 0 */
+static void decimals(void) {
+    static const struct {
+        const char *power;
+        unsigned number;
+    } powers[] = {
+        {"0.5", 0}, {"-0.5", 0}, {"+0.25", 0}, {"0.05", 0}, {"0.0500", 0}, {"0.0", 5}, {"-0.0000", 5}, {"+0.00000", 5}, {"0.12345", 5}, {"0.50000", 5},
+        {"0.125", 5}, {"0.0001", 5}, {"00.5", 4}, {"-00.5", 4}, {"0.", 4}, {".5", 4}, {"-.5", 4}, {"0", 4}, {"-0", 4}, {"0/2", 4}, {"1/0", 4}, {"0.5/2", 4},
+        {"1/0.5", 4}, {"0.5.5", 4}, {"+-0.5", 4}, {"0,5", 4},
+    };
+    for (size_t i = 0; i < sizeof powers / sizeof powers[0]; i++) {
+        unsigned number = powers[i].number, terms = number == 0;
+        expect(1, joined("m(", powers[i].power, ")"), number, terms, 0);
+        expect(1, joined("m^(", powers[i].power, ")"), number, terms, 0);
+        for (uint32_t n = 1; n <= 4; n++)
+            expect(n, joined("m**(", powers[i].power, ")"), n == 3 ? 4 : number, n == 3 ? 0 : terms, 0);
+        if (strchr(powers[i].power, '.'))
+            for (uint32_t n = 1; n <= 4; n++)
+                expect(n, joined("m**", powers[i].power, ""), 4, 0, 0);
+    }
+}
+
 /* factors: k 99 and 100 under each sign, in every form that the notation has */
 static void factors(void) {
     static const struct {
@@ -246,6 +268,7 @@ int main(void) {
     sizes();
     whole_exponents();
     fractions();
+    decimals();
     factors();
     sizes_of_words();
     powers_of_words();

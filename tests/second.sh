@@ -21,6 +21,7 @@ stored() {
 }
 second symbols | stored vectors/symbols.tsv
 second spoken | stored vectors/words.tsv
+second decimals | stored vectors/decimals.tsv
 cut -d' ' -f1,2 vectors/readings.tsv | second read | stored vectors/readings.tsv
 cut -d' ' -f1-4 vectors/converts.tsv | second convert | stored vectors/converts.tsv
 second lines <vectors/lines.in | stored vectors/lines.out

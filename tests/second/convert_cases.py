@@ -2,6 +2,7 @@
 from fractions import Fraction
 from random import Random
 
+from . import decimal_cases
 from .converting import LARGEST, LARGEST_POWER
 from .labels import PREFIX_NAMES, label
 from .rewrite_cases import NO_NOTATIONS, NOTATIONS, written
@@ -156,7 +157,7 @@ def cases(seed, count, everything):
     pairs = every_pair()
     if not everything:
         pairs = random.sample(pairs, min(count // 4, len(pairs)))
-    found = special() + refused() + roots() + around_largest() + around_largest_power() + pairs
+    found = special() + refused() + roots() + decimal_cases.converted() + around_largest() + around_largest_power() + pairs
     others = count - count // 4
     return found + [convertible(random) if number % 4 else unlike(random) for number in range(others)]
 

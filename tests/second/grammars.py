@@ -1,7 +1,7 @@
 """The four grammars, one for each notation, and a recogniser that knows nothing of notations.
 
-Each grammar is written as its paragraph in document 01 is. The recogniser finds every meaning that a grammar gives a text: each rule, at
-each place, gives the set of all (end, meaning), and no longest match is taken anywhere."""
+Each grammar is written as its paragraph in document 01 is, with the decimals of document 02, W2. The recogniser finds every meaning that a
+grammar gives a text: each rule, at each place, gives the set of all (end, meaning), and no longest match is taken anywhere."""
 import re
 import sys
 from math import gcd
@@ -18,7 +18,8 @@ unsigned  = nonzero more
 signed    = "+" unsigned | "-" unsigned
 integer   = unsigned | signed
 places    = [0-9]+
-decimal   = integer "." places
+nought    = "0" | "+" "0" | "-" "0"
+decimal   = integer "." places | nought "." places
 ratio     = integer "/" unsigned
 bracketed = "(" integer ")" | "(" decimal ")" | "(" ratio ")"
 power     = integer | bracketed
@@ -101,11 +102,17 @@ def places(text, s, e, parts):
     return (('places', text[s:e]),)
 
 
+# document 02: "A decimal may now also start, after its sign, with a single 0 before the point."
+def nought(text, s, e, parts):
+    return (('q', 0, 1, False),)
+
+
+# document 02: "A decimal whose digits are all 0 is grammatical and gets refusal 5."
 def decimal(text, s, e, parts):
     (_, n, _, bad), (_, digits) = parts
     ones = 10 ** len(digits)
     size = abs(n) * ones + int(digits)
-    return (('q', -size if text[s] == '-' else size, ones, bad or len(digits) > 4),)
+    return (('q', -size if text[s] == '-' else size, ones, bad or len(digits) > 4 or size == 0),)
 
 
 def ratio(text, s, e, parts):
@@ -148,7 +155,7 @@ def over(text, s, e, parts):
     return tuple(('t', spelling, -n, d, bad) for _, spelling, n, d, bad in parts)
 
 
-ACTIONS = {f.__name__: f for f in (unsigned, signed, places, decimal, ratio, plain, factor, plainsp, quotesp, pquotesp, unit, over)}
+ACTIONS = {f.__name__: f for f in (unsigned, signed, places, nought, decimal, ratio, plain, factor, plainsp, quotesp, pquotesp, unit, over)}
 
 # THE RECOGNISER
 

@@ -9,11 +9,15 @@ ALL_NAMES = sorted(set().union(*NAMES_IN_ORDER.values()))
 PREFIX_NAMES = list(PREFIXES)
 
 # How often an alternative of a rule is taken; 1 where nothing is said. Most labels have a few units and little nesting.
-WEIGHTS = {'whole': {0: 0.05}, 'item': {0: 6}, 'rest': {0: 3}, 'product': {0: 1.5}, 'signed': {1: 2}}
+WEIGHTS = {'whole': {0: 0.05}, 'item': {0: 6}, 'rest': {0: 3}, 'product': {0: 1.5}, 'signed': {1: 2}, 'nought': {0: 3, 2: 2},
+           'bracketed': {1: 2}}
 # What a class of characters gives, each text as often as it is listed
 DIGITS = {'nonzero': list('111222333445566789'), 'more': [''] * 40 + list('0024') + ['', '00', '999', '0000'],
-          'places': ['5', '0', '25', '50', '75', '5', '0000', '3', '00000'],
+          'places': ['5', '0', '25', '50', '75', '5', '0000', '3', '00000', '05', '1', '125', '5000', '50000'],
           'zeros': [''] * 8 + ['0', '00', '000'] * 4 + ['0' * 99, '0' * 100]}
+# The same, with powers that are nearly decimals
+NEAR_DECIMALS = {**DIGITS, 'power': ['2', '-1', '(0.5)', '(-0.25)'] * 4 + '0.5 -0.5 0.0 1.5 (00.5) (-00.5) (0.) (-0.) (1.) (.5) (-.5) (+.5) (0) (-0)'
+                 ' (0/2) (1/0) (0.5/2) (0.5.5) (0.0.5) (+-0.5) (0,5) (0.5e1)'.split()}
 
 
 def spelling(random, notation):
@@ -27,8 +31,8 @@ def spelling(random, notation):
 class Writer:
     """Writes a text of a grammar by taking alternatives at random; after `room` bytes it takes the first that has no rule inside itself."""
 
-    def __init__(self, random, notation, room):
-        self.random, self.notation, self.room = random, notation, room
+    def __init__(self, random, notation, room, digits=DIGITS):
+        self.random, self.notation, self.room, self.digits = random, notation, room, digits
         self.rules = GRAMMARS[notation].rules
 
     def alternative(self, rule):
@@ -41,8 +45,8 @@ class Writer:
     def text(self, rule):
         if rule == 'letters':
             found = spelling(self.random, self.notation)
-        elif rule in DIGITS:
-            found = self.random.choice(DIGITS[rule])
+        elif rule in self.digits:
+            found = self.random.choice(self.digits[rule])
         elif rule == 'sp':
             found = self.random.choice(['', '', '', ' ', '  '])
         else:
@@ -59,6 +63,10 @@ class Writer:
 
 def valid(random, notation):
     return Writer(random, notation, random.choice([8, 20, 40, 100])).text('whole').encode('ascii')
+
+
+def near_decimal(random, notation):
+    return Writer(random, notation, random.choice([20, 40]), NEAR_DECIMALS).text('whole').encode('ascii')
 
 
 def damaged(random, notation):
@@ -97,7 +105,7 @@ def bad_byte(random, notation):
     return bytes(data)
 
 
-KINDS = [valid] * 24 + [damaged] * 10 + [any_bytes, any_signs, nested] * 2 + [many, bad_byte]
+KINDS = [valid] * 24 + [damaged] * 10 + [any_bytes, any_signs, nested, near_decimal] * 2 + [many, bad_byte]
 
 
 def label(random, notation):

@@ -1,6 +1,7 @@
 """Input for the line program."""
 from random import Random
 
+from . import decimal_cases
 from .labels import label
 from .lines import LARGEST_LINE, NOTATIONS
 from .rewrite_cases import of_length, special
@@ -53,6 +54,13 @@ def labels():
     return [line(b's', NAME_OF[source], data, NAME_OF[target]) for source, data, target, _ in special()]
 
 
+def decimals():
+    """Decimals and what looks like one: in the notation's own forms into FITS and CDS, in others' into the notation itself."""
+    found = [(source, data, target) for source, data in decimal_cases.own() for target in (b'fits', b'cds')]
+    found += [(source, data, NAME_OF[source]) for source, data in decimal_cases.foreign()]
+    return [line(b'd', NAME_OF[source], data, target) for source, data, target in found]
+
+
 def results():
     """Results of 254 to 257 bytes in every pair of notations."""
     return [line(b'r', source, of_length(NOTATIONS[source], NOTATIONS[target], length), target)
@@ -71,6 +79,6 @@ def random_line(random):
 def text(seed, count, everything):
     """The last line has no newline."""
     random = Random(seed)
-    found = [b'', b'\r'] + tabs() + names() + bytes_inside() + lengths() + labels() + results() + [b'', b'']
+    found = [b'', b'\r'] + tabs() + names() + bytes_inside() + lengths() + labels() + decimals() + results() + [b'', b'']
     found += [random_line(random) for _ in range(count)] + [line(b'last', b'fits', b'km', b'vou')]
     return b'\n'.join(found)

@@ -1,6 +1,7 @@
 """Cases for reading: (notation, label)."""
 from random import Random
 
+from . import decimal_cases
 from .labels import ALL_NAMES, PREFIX_NAMES, label
 from .rewrite_cases import JOIN, NO_NOTATIONS, NOTATIONS, numbers, refused, special
 
@@ -19,7 +20,7 @@ def many_terms():
 def cases(seed, count):
     random = Random(seed)
     found = [(source, data) for source, data, _, _ in special() + numbers() + refused()]
-    found = sorted(set(found)) + every_spelling() + many_terms()
+    found = sorted(set(found)) + every_spelling() + many_terms() + decimal_cases.own() + decimal_cases.foreign()
     for _ in range(count):
         notation = random.choice(NOTATIONS)
         data = label(random, notation)

@@ -2,6 +2,7 @@
 from fractions import Fraction
 from random import Random
 
+from . import decimal_cases
 from .labels import label
 from .symbols import NAMES, spellings
 from .writing import CDS, FITS, OGIP, VOUNITS, rewrite, written_exponent, written_factor
@@ -52,6 +53,12 @@ def numbers():
     cases = powers + [(k, [('s', exponent), ('kg', 2)]) for k in (0, -3) for exponent in exponents]
     made = [(source, written(source, *case)) for source in NOTATIONS for case in cases]
     return into_all((source, data) for source, data in made if data is not None)
+
+
+def decimals():
+    """Decimals and what looks like one: into every notation; in other notations' forms, which are refused, into one; a few with each buffer."""
+    found = into_all(decimal_cases.own()) + [(source, data, OGIP, ROOM) for source, data in decimal_cases.foreign()]
+    return found + buffers(into_all(decimal_cases.halves()))
 
 
 def of_length(source, target, length):
@@ -108,7 +115,7 @@ def cases(seed, count, everything):
     symbols = every_symbol()
     if not everything:
         symbols = random.sample(symbols, min(count // 2, len(symbols)))
-    found = special() + buffers(special()[::3]) + numbers() + lengths() + refused() + order() + symbols
+    found = special() + buffers(special()[::3]) + numbers() + decimals() + lengths() + refused() + order() + symbols
     for _ in range(count - count // 2):
         source, target = random.choice(NOTATIONS), random.choice(NOTATIONS)
         size = random.choice([ROOM] * 8 + [0, 3, 10, 20, 30, 254, 256])

@@ -2,7 +2,7 @@
 from fractions import Fraction
 from random import Random
 
-from . import rewrite_cases, spoken
+from . import decimal_cases, rewrite_cases, spoken
 from .labels import LETTERS, PREFIX_NAMES, label
 from .reading import read
 from .rewrite_cases import JOIN, NO_NOTATIONS, NOTATIONS, written
@@ -73,6 +73,11 @@ def numerals():
     return whole(found + [(notation, b'1' + b'0' * zeros + b'm') for notation in (OGIP, CDS, VOUNITS) for zeros in (98, 99, 100)])
 
 
+def decimals():
+    """Decimals and what looks like one, and a few with each buffer."""
+    return whole(decimal_cases.own() + decimal_cases.foreign()) + buffers(decimal_cases.halves())
+
+
 def limits():
     """255 bytes, 32 terms and 8 brackets, those of groups and of powers alike, and one below and above each."""
     power = {FITS: b'm(2)', OGIP: b'm**(2)', CDS: b'm2', VOUNITS: b'm**(2)'}
@@ -122,7 +127,7 @@ def random_case(random):
 
 def cases(seed, count, everything):
     random = Random(seed)
-    found = buffers(named()) + longest() + powers() + numerals() + limits() + unknown() + alike() + refused()
+    found = buffers(named()) + longest() + powers() + numerals() + decimals() + limits() + unknown() + alike() + refused()
     found += every_symbol() if everything else []
     return found + [random_case(random) for _ in range(count)]
 

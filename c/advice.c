@@ -55,7 +55,9 @@ static void offer_split(struct advice *a, enum claim claim, const char *near, ui
 static void give_rules(struct advice *a, const bool used[HABITS], bool slashes) {
     const struct notation_word *w = &notation_words[a->notation];
     const char *factors = strncmp(a->plain.s, "1/", 2) == 0 ? "no 1 is written before a slash" : w->factors;
-    const char *const rules[] = {[FACTORS] = factors, [JOINTS] = w->joints, [POWERS] = w->powers, [SPACES] = w->spaces};
+    bool bare_point = strstr(a->plain.s, "(.") || strstr(a->plain.s, "+.") || strstr(a->plain.s, "-.");
+    const char *powers = bare_point ? "a decimal has digits on both sides of its point" : w->powers;
+    const char *const rules[] = {[FACTORS] = factors, [JOINTS] = w->joints, [POWERS] = powers, [SPACES] = w->spaces};
     if (used[ENDS])
         give_reason(&a->reasons, "Spaces and quotes round a label are no part of it.");
     for (unsigned h = FACTORS; h < HABITS; h++)

@@ -40,12 +40,14 @@ void blame_forms(uint32_t notation, const char *label, struct text *reasons) {
         open += (*at == '(') - (*at == ')');
         if (!isalnum((unsigned char)*at) && *at != ' ' && !strchr(w->signs, *at))
             give_reason(reasons, "No %s label has %s.", w->name, find_sign((unsigned char)*at)->name);
-        if (size && exponent.s[strspn(exponent.s, "+-")] == '0')
-            give_reason(reasons, "An exponent does not start with 0.");
+        if (size && exponent.s[strspn(exponent.s, "+-")] == '0' && exponent.s[strspn(exponent.s, "+-") + 1] != '.')
+            give_reason(reasons, "An exponent starts with 1 to 9%s.", accepts(notation, "m**(0.5)") ? ", or with one 0 and a point" : "");
         else if (size && !accepts(notation, metre.s))
             give_reason(reasons, "In %s %s.", w->name, w->powers);
         if (*at == '-' && !isdigit((unsigned char)at[1]))
             give_reason(reasons, "A hyphen is only the minus sign of a number.");
+        if (strncmp(at, ".)", 2) == 0 && at > label && isdigit((unsigned char)at[-1]))
+            give_reason(reasons, "A decimal has digits on both sides of its point.");
         if (*at == '/' && isdigit((unsigned char)at[1]) && open == 0)
             give_reason(reasons, "No number comes after a slash. An exponent that is a fraction is in brackets.");
         if (*at == ')' && at[1] && !isdigit((unsigned char)at[-1]) && (strchr("^+-0123456789", at[1]) || strncmp(at + 1, "**", 2) == 0))

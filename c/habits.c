@@ -48,22 +48,18 @@ bool put_terms(uint32_t notation, const char *label, const uint8_t *record, stru
     return true;
 }
 
-/* an exponent in any form: how many bytes it has, 0 if there is none, and the number without its signs and brackets */
+/* an exponent in any form: how many bytes it has, 0 if there is none, and the number without its signs and brackets, with a 0 before a bare point */
 static size_t power_length(const char *s, struct text *exponent) {
     size_t at = strncmp(s, "**", 2) == 0 ? 2 : s[0] == '^';
     bool bracket = s[at] == '(';
     at += bracket;
-    if (!starts_integer(s + at))
-        return 0;
-    size_t length = 1 + strspn(s + at + 1, DIGITS);
-    if ((s[at + length] == '.' || (bracket && s[at + length] == '/')) && is_one_of(s[at + length + 1], DIGITS))
+    size_t sign = is_one_of(s[at], "+-"), whole = strspn(s + at + sign, DIGITS), length = sign + whole;
+    bool parted = (s[at + length] == '.' && at + whole > 0) || (s[at + length] == '/' && bracket && whole > 0);
+    if (parted && is_one_of(s[at + length + 1], DIGITS))
         length += 1 + strspn(s + at + length + 1, DIGITS);
-    if (bracket && s[at + length] != ')')
+    if (length == sign || (bracket && s[at + length] != ')'))
         return 0;
-    if (length == 3u + is_one_of(s[at], "+-") && strncmp(s + at + length - 3, "0.5", 3) == 0)
-        put(exponent, "%s1/2", s[at] == '-' ? "-" : "");
-    else
-        put(exponent, "%.*s", (int)length, s + at);
+    put(exponent, "%.*s%s%.*s", (int)sign, s + at, whole ? "" : "0", (int)(length - sign), s + at + sign);
     return at + length + bracket;
 }
 

@@ -87,7 +87,7 @@ void report_refusal(FILE *out, uint32_t notation, const char *label, uint32_t nu
         [THALINGUZE_BYTE_OUT_OF_RANGE] = "the label has signs that are not plain ASCII",
         [THALINGUZE_NOT_IN_GRAMMAR] = "the label does not follow the rules of ",
         [THALINGUZE_NUMBER_OUT_OF_BOUNDS] = "a number is out of bounds.\nExponents and powers of ten go from minus 99 to 99, with 4 digits in a row "
-            "at most.\nAn exponent may have parts that divide 60: halves, thirds, quarters, fifths, sixths and so on",
+            "at most.\nAn exponent is not 0, and may have parts that divide 60: halves, thirds, quarters, fifths, sixths and so on",
         [THALINGUZE_TOO_DEEP] = "more than 8 brackets are open at once.\nTake brackets away",
         [THALINGUZE_TOO_MANY_TERMS] = "the label has more than 32 terms.\nWrite a unit that comes several times once, with an exponent",
         [THALINGUZE_UNKNOWN_UNIT] = "a unit is unknown, and so is its size",

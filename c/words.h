@@ -18,18 +18,18 @@ struct notation_word {
 
 static const struct notation_word notation_words[NOTATIONS + 1] = {
     [THALINGUZE_FITS] = {"fits", "FITS", "()/*.+-^ ", "one space, a star or a point joins units",
-        "one space may join units, and there are no other spaces", "an exponent that is not whole is a fraction in brackets",
+        "one space may join units, and there are no other spaces", "an exponent that is not whole is in brackets",
         "a power of ten is 10, two stars and its exponent",
         "one slash is allowed, outside groups and not after a power of ten, and one unit or group after it",
         {"kg m2/s3", "10**3 erg/(s cm2)", "Hz(1/2)"}},
     [THALINGUZE_OGIP] = {"ogip", "OGIP", "()/*.+- ", "a space or a star joins units",
-        "there are no spaces inside brackets or before an exponent", "an exponent comes after two stars, a fraction in brackets",
+        "there are no spaces inside brackets or before an exponent", "an exponent comes after two stars, in brackets if it is not whole",
         "a power of ten is 10, two stars and its exponent", 0, {"kg m**2/s**3", "10**3 erg/(s cm**2)", "Hz**(1/2)"}},
     [THALINGUZE_CDS] = {"cds", "CDS", "()/*.+-%", "a point joins units", "there are no spaces",
         "an exponent is a whole number straight after its unit", "a power of ten is 10 and its exponent with plus or minus, without spaces",
         0, {"kg.m2/s3", "10+3J/(s.cm2)", "km/s/Mpc"}},
     [THALINGUZE_VOUNITS] = {"vou", "VOUnits", "()/*.+-'", "a point joins units", "there are no spaces",
-        "an exponent comes after two stars, a fraction in brackets", "a power of ten is 10, two stars and its exponent, without spaces",
+        "an exponent comes after two stars, in brackets if it is not whole", "a power of ten is 10, two stars and its exponent, without spaces",
         "one slash is allowed, after a unit, and one unit or group after it", {"kg.m**2/s**3", "10**3erg/(s.cm**2)", "Hz**(1/2)"}},
 };
 

@@ -24,9 +24,11 @@ struct said {
     } terms[300];
 };
 
-static const char *number_at(const char *at, double *value) {
+/* a number, which may start with a point where that is said */
+static const char *number_at(const char *at, bool pointed, double *value) {
     char *end;
-    if (!isdigit((unsigned char)at[*at == '-' || *at == '+']))
+    const char *first = at + (*at == '-' || *at == '+');
+    if (!isdigit((unsigned char)first[pointed && *first == '.']))
         return NULL;
     *value = strtod(at, &end);
     return end;
@@ -38,11 +40,11 @@ static const char *exponent_at(const char *at, double *exponent) {
     double divisor = 1;
     *exponent = 1;
     bool bracket = *start == '(';
-    if (!(end = number_at(start + bracket, exponent))) {
+    if (!(end = number_at(start + bracket, start + bracket > at, exponent))) {
         *exponent = 1;
         return at;
     }
-    if (bracket && *end == '/' && !(end = number_at(end + 1, &divisor)))
+    if (bracket && *end == '/' && !(end = number_at(end + 1, false, &divisor)))
         return at;
     *exponent /= divisor;
     return end + bracket;
@@ -88,7 +90,7 @@ static void read_said(const char *given, bool rest, struct said *s) {
     closed[length] = 0;
     s->count = 0;
     text += strspn(text, " '\"`");
-    const char *end = number_at(text, &value), *after = end;
+    const char *end = number_at(text, false, &value), *after = end;
     if (end && strncmp(text, "10", 2) == 0 && !isdigit((unsigned char)text[2]) && text[2] != 'e' && text[2] != 'E') {
         double power;
         after = exponent_at(text + 2, &power);
@@ -160,7 +162,9 @@ static const struct {
     {1, "kg/m.s", "kg m-1 s", "kg/(m.s)"}, {2, "kg/m.s", "kg m**(-1) s", "kg/(m s)"}, {4, "kg/m.s", "kg.m**-1.s", "kg/(m.s)"},
     {4, "kg/m/s", "kg/(m.s)", 0}, {3, "---", "", 0}, {3, "0.1nm", "10-1nm", 0}, {3, "[K]", 0, 0}, {3, "20%", 0, 0}, {1, "Jy / beam", "Jy/beam", 0},
     {1, "W /m**2", "W/m**2", 0}, {1, "DN/s/pixel", 0, 0}, {2, "(m s)**(0.5)", 0, 0}, {2, "sqrt(Hz)", 0, 0}, {2, " /m", "/m", 0}, {1, "m02", 0, 0},
-    {1, "Hz(0.5)", "Hz(1/2)", 0}, {1, "Hz**(-0.5)", "Hz(-1/2)", 0}, {1, "kg  m", "kg m", 0}, {1, "10(3)m", "10**3 m", 0}, {1, "kg * m", "kg*m", 0},
+    {1, "Hz(0.5)", 0, 0}, {1, "Hz^0.5", "Hz(1/2)", 0}, {1, "Hz**-0.5", "Hz(-1/2)", 0}, {1, "Hz^.5", "Hz(1/2)", 0}, {2, "Hz**(.5)", "Hz**(1/2)", 0},
+    {4, "Hz**(-.25)", "Hz**(-1/4)", 0}, {2, "Hz**0.05", "Hz**(1/20)", 0}, {1, "Hz.5", 0, 0}, {3, "Hz(0.5)", 0, 0}, {2, "Hz**(00.5)", 0, 0}, {2, "Hz**(0.)", 0, 0},
+    {2, "Hz**0.0", 0, 0}, {1, "kg  m", "kg m", 0}, {1, "10(3)m", "10**3 m", 0}, {1, "kg * m", "kg*m", 0},
     {1, "(m/s) kg", "m s-1 kg", 0}, {1, "10+3/m", "10**3 m-1", 0}, {1, "m1.5", "m(3/2)", 0}, {1, "m^3/2", 0, 0}, {1, "1/s", "/s", 0},
     {2, "m**(1 / 2)", "m**(1/2)", 0}, {2, "( m)", "(m)", 0}, {2, "cm -2 s -1", "cm**(-2) s**(-1)", 0}, {3, "km s-1", "km.s-1", 0},
     {4, "/m", "m**-1", 0}, {4, "1e3m", "10**3m", 0}, {4, "10**3 m", "10**3m", 0}, {1, "'m'", 0, 0}, {1, "'km/s'", "km/s", 0}, {3, "m1/2", 0, 0},

@@ -106,7 +106,7 @@ END
 says 1 out read ogip ph.cm-2.s-1 <<'END'
 Refused, number 4: the label does not follow the rules of OGIP.
 In OGIP a space or a star joins units.
-In OGIP an exponent comes after two stars, a fraction in brackets.
+In OGIP an exponent comes after two stars, in brackets if it is not whole.
 As FITS this is photon centi metre to the minus 2 second to the minus 1; in OGIP: photon cm**(-2) s**(-1)
 END
 says 1 out read fits 'log10(count/s)' <<'END'
@@ -130,6 +130,13 @@ has 1 fits "$(printf 'm\302\240s')" 'No label has a non-breaking space.' 'Write:
 has 1 fits "$(printf '\265m')" 'No label has a micro sign.' 'Write: um'
 has 1 fits "$(printf 'm\377')" 'No label has the byte hexadecimal FF.'
 has 1 fits 'm(1/7)' 'Refused, number 5: a number is out of bounds.'
+has 1 ogip 'Hz**(0.0)' 'Refused, number 5: a number is out of bounds.' 'An exponent is not 0, and may have parts that divide 60: halves, thirds, quarters, fifths, sixths and so on.'
+has 1 ogip 'Hz**(00.5)' 'An exponent starts with 1 to 9, or with one 0 and a point.'
+has 1 cds 'm02' 'An exponent starts with 1 to 9.'
+has 1 ogip 'Hz**(0.)' 'A decimal has digits on both sides of its point.'
+has 1 fits 'Hz(-.5)' 'In FITS a decimal has digits on both sides of its point.' 'Write: Hz(-1/2)'
+has 1 ogip 'Hz**.5' 'In OGIP an exponent comes after two stars, in brackets if it is not whole.' 'Write: Hz**(1/2)'
+has 1 cds 'Hz(0.5)' 'As FITS this is hertz to the 1 over 2, which CDS does not have.'
 has 1 fits '(((((((((m)))))))))' 'Refused, number 6: more than 8 brackets are open at once.'
 has 1 cds "$(printf '%32s' '' | sed 's/ /m./g')m" 'Refused, number 7: the label has more than 32 terms.'
 has 1 fits "$(printf '%300s' '' | tr ' ' m)" 'Refused, number 2: the label has more than 255 bytes.'
@@ -255,7 +262,7 @@ END
 says 1 err convert fits m ogip m2 <<'END'
 The second label cannot be read.
 Refused, number 4: the label does not follow the rules of OGIP.
-In OGIP an exponent comes after two stars, a fraction in brackets.
+In OGIP an exponent comes after two stars, in brackets if it is not whole.
 FITS and CDS accept the label as it stands.
 Write: m**2
 END

@@ -196,6 +196,8 @@ SHAPE = ("that can be named from here", "has no field", "binders, but its type h
 def refusal(crate, said):
     """the verdict where a check of the crate failed"""
     place, error = first_error(said)
+    if "is not what its file 'stdout' has" in said:
+        return "caught", "line program: the sample lines of document 01"
     if "logic=not-proved" not in said:
         return "error of the list", crate + ": " + error
     if "/specs/" in place or any(sign in error for sign in SHAPE):

@@ -98,7 +98,12 @@ static bool bracketed(struct parser *p, int *numerator, int *denominator) {
     if (!open_bracket(p))
         return false;
     bool negative = next_is(p, '-');
-    if (!integer(p, numerator))
+    const uint8_t *first = p->at + (negative || next_is(p, '+'));
+    bool below_one = p->end - first > 1 && first[0] == '0' && first[1] == '.';
+    *numerator = 0;
+    if (below_one)
+        p->at = first + 1;
+    else if (!integer(p, numerator))
         return false;
     if (take(p, '.')) {
         int decimals;
@@ -108,6 +113,8 @@ static bool bracketed(struct parser *p, int *numerator, int *denominator) {
         for (unsigned i = 0; i < count && i < THALINGUZE_MAX_DIGITS; i++)
             *denominator *= 10;
         *numerator = *numerator * *denominator + (negative ? -decimals : decimals);
+        if (*numerator == 0)
+            p->broken = true;
     } else if (take(p, '/') && !unsigned_integer(p, denominator)) {
         return false;
     }

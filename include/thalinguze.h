@@ -40,7 +40,7 @@ extern "C" {
 
 /* The version. The number is written in these three lines and nowhere else. */
 #define THALINGUZE_VERSION_MAJOR 0
-#define THALINGUZE_VERSION_MINOR 10
+#define THALINGUZE_VERSION_MINOR 11
 #define THALINGUZE_VERSION_PATCH 0
 
 /* The version as one number, 10203 for 1.2.3, and as text, "1.2.3". */
@@ -88,7 +88,7 @@ enum {
 #define THALINGUZE_MAX_TERMS 32
 #define THALINGUZE_MAX_DEPTH 8           /* brackets open at once */
 #define THALINGUZE_MAX_DIGITS 4          /* in a run of digits; a plain factor 1, 10, 100, .. may have more */
-#define THALINGUZE_MAX_EXPONENT 99       /* size of an exponent; its denominator in lowest terms divides 60 */
+#define THALINGUZE_MAX_EXPONENT 99       /* size of an exponent, which is never 0; its denominator in lowest terms divides 60 */
 #define THALINGUZE_MAX_POWER_OF_TEN 99   /* size of a factor's k, in ten to the k */
 
 /* Exponents are counted in sixtieths: 60 is 1, 90 is 3/2, -60 is -1. */

@@ -1,5 +1,6 @@
 pub mod SpokenSymbols
 pub mod SpokenSamples
+pub mod StarlinkHolds
 pub mod NameTests
 pub mod Sixtieths
 pub mod Lowest

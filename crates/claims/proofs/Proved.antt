@@ -14,7 +14,7 @@ use Rattle.claims.proofs.Longest as longest
 use Rattle.claims.proofs.NameTests as names
 use Rattle.claims.proofs.Lowest.{lowest}
 use Rattle.claims.proofs.Sixtieths.{whole-divides, divides-whole}
-use Rattle.claims.specs.Claims.{ParseIsTheGrammar, ParseRefusesTheRest, Unambiguous, RefusalsAreTheConditions, BoundsAreKept, ZeroDecimalsRefused, ZeroDecimalsAlone, RefusalsAreEmpty, ZeroIsAcceptance, AcceptedContent, ExponentsAsWritten, AnswersComeFromTheTerms, KnownVerdict, LawfulVerdict, RecommendedVerdict, DimensionsAreSums, ScaleIsASum, AtMostOneKnownRest, SixtiethsAreTheBound, ShownInLowestTerms, GrammarsAgree, NotationsAgree, RewrittenReadsAsTheSame, RewritingRefusals, RefusedRewritesAreEmpty, FourteenIsAShortBuffer, EarlierWhateverTheBuffer, OwnNotationHasForms, RewrittenOnceForAll, MalformedLines, OtherLines, NamesFit, NamesDiffer, NamesAreLetters, NamesForAll, WordsTellApart, PlainWords, WordsRefusals, FourteenIfTheWordsAreLonger, SevenOrFourteen, WordsWithZero, NoWordsWithOthers, WordsAreShort, LongestWordsAreMet, RoomForAllWords, WordSamples}
+use Rattle.claims.specs.Claims.{ParseIsTheGrammar, ParseRefusesTheRest, Unambiguous, RefusalsAreTheConditions, BoundsAreKept, ZeroDecimalsRefused, ZeroDecimalsAlone, RefusalsAreEmpty, ZeroIsAcceptance, AcceptedContent, ExponentsAsWritten, AnswersComeFromTheTerms, KnownVerdict, LawfulVerdict, RecommendedVerdict, DimensionsAreSums, ScaleIsASum, AtMostOneKnownRest, StarlinkSymbols, SixtiethsAreTheBound, ShownInLowestTerms, GrammarsAgree, NotationsAgree, RewrittenReadsAsTheSame, RewritingRefusals, RefusedRewritesAreEmpty, FourteenIsAShortBuffer, EarlierWhateverTheBuffer, OwnNotationHasForms, RewrittenOnceForAll, StarlinkSamples, MalformedLines, OtherLines, NamesFit, NamesDiffer, NamesAreLetters, NamesForAll, WordsTellApart, PlainWords, WordsRefusals, FourteenIfTheWordsAreLonger, SevenOrFourteen, WordsWithZero, NoWordsWithOthers, WordsAreShort, LongestWordsAreMet, RoomForAllWords, WordSamples}
 use Rattle.claims.proofs.Conversions.{factor-once}
 use Rattle.claims.proofs.ConversionAnswers.{gives-converts, number-due, due-refused, zero-undue}
 use Rattle.claims.proofs.Inverses.{converts-itself, converts-inverse}
@@ -23,6 +23,7 @@ use Rattle.claims.proofs.ConversionLimits as limits
 use Rattle.claims.proofs.Sizings as sizings
 use Rattle.claims.proofs.Lines as lines
 use Rattle.claims.proofs.SpokenSamples as spoken
+use Rattle.claims.proofs.StarlinkHolds as starlink
 use Rattle.claims.proofs.TellApart as apart
 use Rattle.claims.proofs.Speaking as speaking
 use Rattle.claims.proofs.ZeroPowers as zeros
@@ -83,6 +84,9 @@ scale-is-a-sum n s q p h = scale-sum n s q p h
 pub at-most-one-known-rest : AtMostOneKnownRest
 at-most-one-known-rest n e l = at-most-one n e l
 
+pub starlink-symbols : StarlinkSymbols
+starlink-symbols = starlink.starlink-symbols
+
 pub sixtieths-are-the-bound : SixtiethsAreTheBound
 sixtieths-are-the-bound r p q w = ((λ e. whole-divides r p q w e), (λ d. divides-whole r p q w d))
 
@@ -119,6 +123,9 @@ own-notation-has-forms n s h = never-twelve n s h
 
 pub rewritten-once-for-all : RewrittenOnceForAll
 rewritten-once-for-all n s m h = rewriting-again n s m h
+
+pub starlink-samples : StarlinkSamples
+starlink-samples = starlink.starlink-samples
 
 -- DEMAND 2, CONVERTING
 

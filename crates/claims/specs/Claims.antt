@@ -1,9 +1,10 @@
 -- The page of claims. Each is stated here, in the words of the crate label's specs/, and proved in proofs/Proved.antt.
 use Prim.Native.Nat.{ℕ, suc, _≤_, _<_, _*_}
+use Prim.Native.String.{String}
 use mathlib.Core.Path.{_≡_}
 use mathlib.Core.Bool.{Bool, true, _||_}
 use mathlib.Core.List.{List, [], _∷_, _++_}
-use mathlib.Core.Option.{Option, some}
+use mathlib.Core.Option.{Option, none, some}
 use mathlib.Core.Logic.{_↔_, _⊎_}
 use lib.Dec.{T, eqb}
 use lib.IntN.{ℤ, pos, _+ℤ_, _*ℤ_, natAbs}
@@ -11,10 +12,10 @@ use lib.ListN.{length, getD}
 use Rattle.label.specs.declared.Exponent.{Exponent}
 use Rattle.label.specs.Bytes.{bytes, tab, letter, digit, all}
 use Rattle.label.specs.Choice.{pick}
-use Rattle.label.specs.Notations.{notation}
+use Rattle.label.specs.Notations.{fits, ogip, cds, vounits, starlink, notation}
 use Rattle.label.specs.Prefixes.{prefixes}
 use Rattle.label.specs.Units.{units}
-use Rattle.label.specs.Symbols.{known, known-cuts}
+use Rattle.label.specs.Symbols.{known, unit-named, known-cuts}
 use Rattle.label.specs.Lexical.{Factor, Part}
 use Rattle.label.specs.Grammar.{Derives}
 use Rattle.label.specs.Parse.{refused, parsed, parse}
@@ -23,7 +24,7 @@ use Rattle.label.specs.Split.{Split, Valued, valued, Condition, Refused, Accept
 use Rattle.label.specs.Reading.{Term, reading-of, reading}
 use Rattle.label.specs.Agreement.{Gives}
 use Rattle.label.specs.Meaning.{_∈_, Prefixable, Named, unrecommended, Sum, BaseIn, dimension, PrimeIn, prime-in-ten, scale-exponent, Empty, AsWritten, ZeroDecimal, PowerKeeps, FactorKeeps}
-use Rattle.label.specs.Writing.{rewriting, rewriting-into, Refuses, SameContent}
+use Rattle.label.specs.Writing.{Rewriting, refuse-rewriting, rewriting, rewriting-into, Refuses, SameContent}
 use Rattle.label.specs.Lines.{fields, answer-fields, answer}
 use Rattle.label.specs.Words.{Word, spoken-prefixes, spoken-units, all-names, names-fit, words, spoken, most-spoken, speaking-into}
 
@@ -119,6 +120,12 @@ ScaleIsASum =
 abbrev pub AtMostOneKnownRest : Type 0
 AtMostOneKnownRest = (n : ℕ) → notation n ≡ true → (l : List ℕ) → length (known-cuts n l) ≤ 1
 
+-- Document 02, W3: "Known symbols are OGIP's, with Ang in place of angstrom"
+pub record StarlinkSymbols : Type 0 where
+  pub as-ogip : (l : List ℕ) → (l ≡ bytes "Ang" → ⊥) → (l ≡ bytes "angstrom" → ⊥) → unit-named starlink l ≡ unit-named ogip l
+  pub ang : (u : ℕ) × (unit-named starlink (bytes "Ang") ≡ some u) × (unit-named ogip (bytes "angstrom") ≡ some u)
+  pub not-both : (unit-named starlink (bytes "angstrom") ≡ none) × (unit-named ogip (bytes "Ang") ≡ none)
+
 -- a/b is p/q in lowest terms: no fraction equal to a/b has a smaller denominator
 pub record LowestTerms (a b p q : ℕ) : Type 0 where
   pub equal : p * b ≡ a * q
@@ -184,6 +191,19 @@ RewrittenOnceForAll =
     (n : ℕ) (s : List ℕ) (m : ℕ)
     → rewriting n s m .number ≡ 0
     → rewriting m (rewriting n s m .text) m ≡ record { number = 0; text = rewriting n s m .text }
+
+-- an accepted rewriting
+abbrev pub rewritten-as : String → Rewriting
+rewritten-as s = record { number = 0; text = bytes s }
+
+-- W3's label in the other notations: "Ang .. becomes Angstrom in FITS and angstrom in OGIP and VOUnits"; and into Starlink: "12 also where the target is 5 and k isn't 0"
+pub record StarlinkSamples : Type 0 where
+  pub in-fits : rewriting starlink (bytes "J/(m**2*Ang*count)") fits ≡ rewritten-as "J m-2 Angstrom-1 count-1"
+  pub in-ogip : rewriting starlink (bytes "J/(m**2*Ang*count)") ogip ≡ rewritten-as "J m**(-2) angstrom**(-1) count**(-1)"
+  pub in-cds : rewriting starlink (bytes "J/(m**2*Ang*count)") cds ≡ refuse-rewriting 12
+  pub in-vounits : rewriting starlink (bytes "J/(m**2*Ang*count)") vounits ≡ rewritten-as "J.m**-2.angstrom**-1.count**-1"
+  pub in-starlink : rewriting ogip (bytes "J /m**2 /angstrom") starlink ≡ rewritten-as "J*m**(-2)*Ang**(-1)"
+  pub with-a-factor : rewriting ogip (bytes "10**3 m") starlink ≡ refuse-rewriting 12
 
 -- LINES
 

@@ -6,28 +6,28 @@ use mathlib.Core.Path.{_≡_, refl, sym, ap, _∙_}
 use mathlib.Core.Bool.{Bool, true, false, _||_, not}
 use mathlib.Core.List.{List, [], _∷_, _++_, map}
 use mathlib.Core.Option.{Option, none, some}
-use mathlib.Core.Logic.{_↔_}
+use mathlib.Core.Logic.{_↔_, _⊎_, inl, inr}
 use lib.Dec.{eqb, leb}
-use lib.IntN.{natAbs}
+use lib.IntN.{pos, natAbs}
 use lib.ListN.{length}
 use lib.Seq.{drop-at}
-use borrow.Author.Tests.{eqb-true, eq-eqb, ne-eqb, leb-false, lt-leb}
+use borrow.Author.Tests.{eqb-true, eq-eqb, ne-eqb, leb-false, lt-leb, not-true}
 use Rattle.label.specs.declared.Rules.{Rules}
 use Rattle.label.specs.declared.Exponent.{Exponent}
 use Rattle.label.specs.declared.Tens.{Tens}
 use Rattle.label.specs.Bytes.{all}
 use Rattle.label.specs.Choice.{pick}
-use Rattle.label.specs.Notations.{member, fractionless, notation}
+use Rattle.label.specs.Notations.{member, fractionless, factorless, notation}
 use Rattle.label.specs.Symbols.{Symbol, unknown, symbol}
-use Rattle.label.specs.Lexical.{Written, unwritten, whole, Part}
-use Rattle.label.specs.Limits.{exclusive-or, Ratio, ratio, sixtieths, exponent-in, exponent-of, denominator-among, denominator-of, lowest-terms, most-bytes, parts-of-one}
+use Rattle.label.specs.Lexical.{Written, unwritten, whole, Factor, Part}
+use Rattle.label.specs.Limits.{exclusive-or, Ratio, ratio, sixtieths, exponent-in, exponent-of, k-of, denominator-among, denominator-of, lowest-terms, most-bytes, parts-of-one}
 use Rattle.label.specs.Split.{Placed, Valued}
 use Rattle.label.specs.Reading.{term, Reading, refusal, reading-of, reading}
 use Rattle.label.specs.Letters.{prefix-letters}
-use Rattle.label.specs.Writing.{power-text, exponent-text, reads-as, in-quotes, symbol-text, Writable, both-texts, unit-text, factor-text, more-text, label-text, written-by, written, own-letters, writable, ReadsAs, NameIn, TakesName, Form, ExponentForm, HasForm, Formless, Rewriting, refuse-rewriting, unless, sized, written-reading, rewriting, Refuses}
+use Rattle.label.specs.Writing.{power-text, exponent-text, reads-as, in-quotes, symbol-text, Writable, both-texts, unit-text, factor-text, more-text, label-text, written-by, written, own-letters, writable, ReadsAs, NameIn, TakesName, Form, ExponentForm, FactorForm, HasForm, Formless, Rewriting, refuse-rewriting, unless, sized, written-reading, rewriting, Refuses}
 use Rattle.label.specs.Rows.{Style}
 use Rattle.label.proofs.Basics.{none-some, false-true}
-use Rattle.label.proofs.General.{SpellingBy, ExponentBy}
+use Rattle.label.proofs.General.{SpellingBy, ExponentBy, LabelBy}
 use Rattle.label.proofs.Ruled.{RuledBy, derives-by, notation-ruled, Suited, ruled-suited}
 use Rattle.label.proofs.Refusals.{bounds, Values, valued-values}
 use Rattle.label.proofs.Places.{Located, AllLocated, label-located, located-there}
@@ -35,44 +35,52 @@ use Rattle.label.proofs.Readings.{Accepted, Answered, answer-of, number
 use Rattle.label.proofs.Exponents.{exponent-kept}
 use Rattle.label.proofs.Figures.{size-signed}
 use Rattle.label.proofs.Spelled.{read-as}
-use Rattle.label.proofs.Rewritten.{both-of, AllReady}
+use Rattle.label.proofs.Rewritten.{both-of, no-size, AllReady}
 use Rattle.label.proofs.Owned.{unit-owned, letters-prefixed, QuotedAs, quoted-as, Sourced, OwnedBy, unquoted-owned, letters-owned}
 use Rattle.label.proofs.Parts.{PartBy, AllParts, label-parts}
-use Rattle.label.proofs.Sources.{writable-at, accepted-kept}
+use Rattle.label.proofs.Sources.{writable-at, unled-k, valued-k, accepted-kept}
 use Rattle.label.proofs.Forms.{not-read, text-form, form-text}
 
--- EXPONENTS
+-- EXPONENTS AND FACTORS
+
+-- a text that is there in one of two cases
+text-picked : (a b : Bool) (u v : List ℕ) {t : List ℕ} → pick a (some u) (pick b (some v) none) ≡ some t → (a ≡ true) ⊎ (b ≡ true)
+text-picked true b u v h = inl refl
+text-picked false true u v h = inr refl
+text-picked false false u v h = absurd (none-some h)
+
+picked-text : (a b : Bool) (u v : List ℕ) → (a ≡ true) ⊎ (b ≡ true) → (t : List ℕ) × (pick a (some u) (pick b (some v) none) ≡ some t)
+picked-text true b u v h = (u, refl)
+picked-text false true u v h = (v, refl)
+picked-text false false u v (inl e) = absurd (false-true e)
+picked-text false false u v (inr e) = absurd (false-true e)
 
 module _ {m : ℕ} {y : Style} (o : Suited m y) where
-  fractions-form : y .fractions ≡ true → member m fractionless ≡ false
-  fractions-form f = go (member m fractionless) (sym (o .fractions) ∙ f)
-    where
-      go : (b : Bool) → not b ≡ true → b ≡ false
-      go true h = absurd (false-true h)
-      go false h = refl
-
   text-exponent : (e : Exponent) (t : List ℕ) → exponent-text y e ≡ some t → ExponentForm m e
   unfolding exponent-text power-text
-  text-exponent e t h = go (eqb (lowest-terms e .denominator) 1) (y .fractions) _ _ refl refl h
+  text-exponent e t h = go (text-picked (eqb (lowest-terms e .denominator) 1) (y .fractions) _ _ h)
     where
-      go : (a b : Bool) (u v : List ℕ) → eqb (lowest-terms e .denominator) 1 ≡ a → y .fractions ≡ b → pick a (some u) (pick b (some v) none) ≡ some t → ExponentForm m e
-      go true b u v p q h = ExponentForm.whole (eqb-true (lowest-terms e .denominator) 1 p)
-      go false true u v p q h = ExponentForm.fraction (fractions-form q)
-      go false false u v p q h = absurd (none-some h)
-
-  picked : (a b : Bool) (u v : List ℕ) → (a || b) ≡ true → (t : List ℕ) × (pick a (some u) (pick b (some v) none) ≡ some t)
-  picked true b u v h = (u, refl)
-  picked false true u v h = (v, refl)
-  picked false false u v h = absurd (false-true h)
+      go : (eqb (lowest-terms e .denominator) 1 ≡ true) ⊎ (y .fractions ≡ true) → ExponentForm m e
+      go (inl p) = ExponentForm.whole (eqb-true (lowest-terms e .denominator) 1 p)
+      go (inr q) = ExponentForm.fraction (not-true (member m fractionless) (sym (o .fractions) ∙ q))
 
   exponent-written : {e : Exponent} → ExponentForm m e → (t : List ℕ) × (exponent-text y e ≡ some t)
   unfolding exponent-text power-text
-  exponent-written {e} (ExponentForm.whole q) = picked (eqb (lowest-terms e .denominator) 1) (y .fractions) _ _ (rw (eq-eqb (lowest-terms e .denominator) 1 q))
-  exponent-written {e} (ExponentForm.fraction q) = picked (eqb (lowest-terms e .denominator) 1) (y .fractions) _ _ (either (eqb (lowest-terms e .denominator) 1) (y .fractions) (o .fractions ∙ ap not q))
+  exponent-written {e} (ExponentForm.whole q) = picked-text (eqb (lowest-terms e .denominator) 1) (y .fractions) _ _ (inl (eq-eqb (lowest-terms e .denominator) 1 q))
+  exponent-written {e} (ExponentForm.fraction q) = picked-text (eqb (lowest-terms e .denominator) 1) (y .fractions) _ _ (inr (o .fractions ∙ ap not q))
+
+  text-factor : (k : Tens) (t : List ℕ) → factor-text y k ≡ some t → FactorForm m k
+  unfolding factor-text
+  text-factor k t h = go (text-picked (eqb (natAbs (k .0)) 0) (y .factors) _ _ h)
     where
-      either : (a b : Bool) → b ≡ true → (a || b) ≡ true
-      either true b h = refl
-      either false b h = h
+      go : (eqb (natAbs (k .0)) 0 ≡ true) ⊎ (y .factors ≡ true) → FactorForm m k
+      go (inl p) = FactorForm.omitted (no-size (k .0) (eqb-true (natAbs (k .0)) 0 p))
+      go (inr q) = FactorForm.factored (not-true (member m factorless) (sym (o .factors) ∙ q))
+
+  factor-written : {k : Tens} → FactorForm m k → (t : List ℕ) × (factor-text y k ≡ some t)
+  unfolding factor-text
+  factor-written {k} (FactorForm.omitted q) = picked-text (eqb (natAbs (k .0)) 0) (y .factors) _ _ (inl (eq-eqb (natAbs (k .0)) 0 (ap natAbs q)))
+  factor-written {k} (FactorForm.factored q) = picked-text (eqb (natAbs (k .0)) 0) (y .factors) _ _ (inr (o .factors ∙ ap not q))
 
   -- UNITS AND LABELS
 
@@ -98,38 +106,45 @@ not-formed (Formless.here f) (AllFormed.also d ds) = f d
 not-formed (Formless.later f) (AllFormed.also d ds) = not-formed f ds
 
 -- each unit has a form and x is a text, or one has none and x is nothing
-pub data Decided (m : ℕ) (ws : List Writable) (x : Option (List ℕ)) : Type 0 where
-  formed : AllFormed m ws → (t : List ℕ) → x ≡ some t → Decided m ws x
-  unformed : Formless m ws → x ≡ none → Decided m ws x
+data UnitsDecided (m : ℕ) (ws : List Writable) (x : Option (List ℕ)) : Type 0 where
+  formed : AllFormed m ws → (t : List ℕ) → x ≡ some t → UnitsDecided m ws x
+  unformed : Formless m ws → x ≡ none → UnitsDecided m ws x
+
+-- the same of a label with its factor
+data Decided (m : ℕ) (k : Tens) (ws : List Writable) (x : Option (List ℕ)) : Type 0 where
+  formed : FactorForm m k → AllFormed m ws → (t : List ℕ) → x ≡ some t → Decided m k ws x
+  unformed : Formless m ws → x ≡ none → Decided m k ws x
+  unfactored : (FactorForm m k → ⊥) → x ≡ none → Decided m k ws x
 
 module _ {m : ℕ} {y : Style} (o : Suited m y) where
-  more-decided : {ws : List Writable} → AllReady ws → Decided m ws (more-text y m ws)
+  more-decided : {ws : List Writable} → AllReady ws → UnitsDecided m ws (more-text y m ws)
   unfolding more-text both-texts
-  more-decided AllReady.done = Decided.formed AllFormed.done [] refl
+  more-decided AllReady.done = UnitsDecided.formed AllFormed.done [] refl
   more-decided (AllReady.also {w = w} {ws = ws} s ss) = go (unit-text y m w) refl (more-decided ss)
     where
-      go : (u : Option (List ℕ)) → unit-text y m w ≡ u → Decided m ws (more-text y m ws) → Decided m (w ∷ ws) (both-texts (some (y .joint)) (both-texts u (more-text y m ws)))
-      go none e d = Decided.unformed (Formless.here (λ f. none-some (sym e ∙ unit-written o w (s .sourced) f .1))) refl
-      go (some u) e (Decided.formed fs t h) = Decided.formed (AllFormed.also (unit-form o w (s .sourced) u e) fs) (y .joint ++ (u ++ t)) (rw h)
-      go (some u) e (Decided.unformed f h) = Decided.unformed (Formless.later f) (rw h)
+      go : (u : Option (List ℕ)) → unit-text y m w ≡ u → UnitsDecided m ws (more-text y m ws) → UnitsDecided m (w ∷ ws) (both-texts (some (y .joint)) (both-texts u (more-text y m ws)))
+      go none e d = UnitsDecided.unformed (Formless.here (λ f. none-some (sym e ∙ unit-written o w (s .sourced) f .1))) refl
+      go (some u) e (UnitsDecided.formed fs t h) = UnitsDecided.formed (AllFormed.also (unit-form o w (s .sourced) u e) fs) (y .joint ++ (u ++ t)) (rw h)
+      go (some u) e (UnitsDecided.unformed f h) = UnitsDecided.unformed (Formless.later f) (rw h)
 
-  -- another first text decides nothing
-  other-first : {ws : List Writable} (a b : List ℕ) (x : Option (List ℕ)) → Decided m ws (both-texts (some a) x) → Decided m ws (both-texts (some b) x)
+  -- with the factor in place of a joint
+  first-decided : (k : Tens) {ws : List Writable} (a : List ℕ) (f x : Option (List ℕ)) → factor-text y k ≡ f → UnitsDecided m ws (both-texts (some a) x) → Decided m k ws (both-texts f x)
   unfolding both-texts
-  other-first a b none (Decided.formed fs t h) = absurd (none-some h)
-  other-first a b none (Decided.unformed f h) = Decided.unformed f refl
-  other-first a b (some x) (Decided.formed fs t h) = Decided.formed fs (b ++ x) refl
-  other-first a b (some x) (Decided.unformed f h) = absurd (none-some (sym h))
+  first-decided k a none x e d = Decided.unfactored (λ f. none-some (sym e ∙ factor-written o f .1)) refl
+  first-decided k a (some b) none e (UnitsDecided.formed fs t h) = absurd (none-some h)
+  first-decided k a (some b) none e (UnitsDecided.unformed f h) = Decided.unformed f refl
+  first-decided k a (some b) (some x) e (UnitsDecided.formed fs t h) = Decided.formed (text-factor o k b e) fs (b ++ x) refl
+  first-decided k a (some b) (some x) e (UnitsDecided.unformed f h) = absurd (none-some (sym h))
 
-  label-decided : (k : Tens) {ws : List Writable} → AllReady ws → Decided m ws (label-text y m k ws)
+  label-decided : (k : Tens) {ws : List Writable} → AllReady ws → (ws ≡ [] → k ≡ record { 0 = pos 0 }) → Decided m k ws (label-text y m k ws)
   unfolding label-text more-text
-  label-decided k AllReady.done = Decided.formed AllFormed.done [] refl
-  label-decided k (AllReady.also {w = w} {ws = ws} s ss) =
-      other-first (y .joint) (factor-text y k) (both-texts (unit-text y m w) (more-text y m ws)) (more-decided (AllReady.also {w = w} {ws = ws} s ss))
+  label-decided k AllReady.done z = Decided.formed (FactorForm.omitted (ap (λ (x : Tens). x .0) (z refl))) AllFormed.done [] refl
+  label-decided k (AllReady.also {w = w} {ws = ws} s ss) z =
+      first-decided k (y .joint) (factor-text y k) (both-texts (unit-text y m w) (more-text y m ws)) refl (more-decided (AllReady.also {w = w} {ws = ws} s ss))
 
-pub written-decided : (m : ℕ) → notation m ≡ true → (k : Tens) {ws : List Writable} → AllReady ws → Decided m ws (written m k ws)
+written-decided : (m : ℕ) → notation m ≡ true → (k : Tens) {ws : List Writable} → AllReady ws → (ws ≡ [] → k ≡ record { 0 = pos 0 }) → Decided m k ws (written m k ws)
 unfolding written written-by
-written-decided m h k s = let w = notation-ruled m h in rw (w .1 .listed .styled) (label-decided (ruled-suited (w .1)) k s)
+written-decided m h k s z = let w = notation-ruled m h in rw (w .1 .listed .styled) (label-decided (ruled-suited (w .1)) k s z)
 
 -- A LABEL'S OWN NOTATION HAS A FORM FOR IT
 
@@ -219,28 +234,41 @@ module _ {n : ℕ} {y : Style} (o : Suited n y) (s : List ℕ) where
   units-formed AllParts.done AllLocated.none Values.no-values = AllFormed.done
   units-formed (AllParts.also d ds) (AllLocated.some w ws) (Values.value {e = e} h v) = AllFormed.also (part-formed e d w h) (units-formed ds ws v)
 
--- what an accepted label's terms are to be written from
-record Accounted (n : ℕ) (ws : List Writable) : Type 0 where
-  pub ready : AllReady ws
-  pub formed : AllFormed n ws
+-- a notation without a factor has labels with k 0 alone
+factor-formed : {n : ℕ} {r : Rules} {s : List ℕ} {f : Factor} {ps : List Part} → RuledBy n r → LabelBy r s f ps → (k : Tens) → k-of f ≡ some k → FactorForm n k
+factor-formed {n} {r} o d k h = go (member n factorless) refl
+  where
+    go : (b : Bool) → member n factorless ≡ b → FactorForm n k
+    go true e = FactorForm.omitted (ap (λ (x : Tens). x .0) (unled-k d k h (sym (o .suits .agrees .factors) ∙ o .listed .factors ∙ ap not e)))
+    go false e = FactorForm.factored e
 
-accepted-accounted : {n : ℕ} {s : List ℕ} {v : Valued} → Accepted n s v → Accounted n (map (writable s) (map (term n (length s)) (v .units)))
+-- what an accepted label is to be written from
+record Accounted (n : ℕ) (k : Tens) (ws : List Writable) : Type 0 where
+  pub ready : AllReady ws
+  pub headed : ws ≡ [] → k ≡ record { 0 = pos 0 }
+  pub formed : AllFormed n ws
+  pub factored : FactorForm n k
+
+accepted-accounted : {n : ℕ} {s : List ℕ} {v : Valued} → Accepted n s v → Accounted n (v .k) (map (writable s) (map (term n (length s)) (v .units)))
 accepted-accounted {n} {s} {v} a =
     let d = derives-by (a .derived) in
     let u = valued-values (a .factor) (a .parts) v (a .within) in
+    let q = accepted-kept a in
     record {
-      ready = accepted-kept a .ready;
+      ready = q .ready;
+      headed = q .headed;
       formed = units-formed (ruled-suited (d .1)) s (label-parts (d .2)) (label-located (d .2)) u;
+      factored = factor-formed (d .1) (d .2) (v .k) (valued-k (a .factor) (a .parts) v (a .within));
     }
 
-reading-accounted : {n : ℕ} {s : List ℕ} {v : Valued} → Accepted n s v → (a : Reading) → a ≡ reading-of n (v .k) (map (term n (length s)) (v .units)) → Accounted n (map (writable s) (a .terms))
+reading-accounted : {n : ℕ} {s : List ℕ} {v : Valued} → Accepted n s v → (a : Reading) → a ≡ reading-of n (v .k) (map (term n (length s)) (v .units)) → Accounted n (a .k) (map (writable s) (a .terms))
 unfolding reading-of
 reading-accounted w a e = rw e (accepted-accounted w)
 
-accounted : (n : ℕ) (s : List ℕ) → reading n s .number ≡ 0 → Accounted n (map (writable s) (reading n s .terms))
+accounted : (n : ℕ) (s : List ℕ) → reading n s .number ≡ 0 → Accounted n (reading n s .k) (map (writable s) (reading n s .terms))
 accounted n s z = go (answer-of n s)
   where
-    go : Answered n s → Accounted n (map (writable s) (reading n s .terms))
+    go : Answered n s → Accounted n (reading n s .k) (map (writable s) (reading n s .terms))
     go (Answered.refusing i e d) = absurd (omega (arith, bounds (d .holds), z, number-refused n s i (bounds (d .holds) .0) .1 d))
     go (Answered.accepting v w) = reading-accounted w (reading n s) (accepted-reading w)
 
@@ -263,26 +291,33 @@ module _ (n : ℕ) (s : List ℕ) (m : ℕ) where
   unfolding rewriting unless sized
   refused-long t z e h l = rw (eq-eqb (reading n s .number) 0 z, e, h, lt-leb (length t) most-bytes l)
 
-  -- 12 is given where no text is written: "a term or exponent has no form in the target"
-  formless-none : reading n s .number ≡ 0 → notation m ≡ true → Formless m (map (writable s) (reading n s .terms)) → written-reading m s (reading n s) ≡ none
-  formless-none z e f = go (written-decided m e (reading n s .k) (accounted n s z .ready))
-    where
-      go : Decided m (map (writable s) (reading n s .terms)) (written-reading m s (reading n s)) → written-reading m s (reading n s) ≡ none
-      go (Decided.formed fs t h) = absurd (not-formed f fs)
-      go (Decided.unformed g h) = h
+  -- 12 is given where no text is written: "a term or exponent has no form in the target", or the factor has none
+  reading-decided : reading n s .number ≡ 0 → notation m ≡ true → Decided m (reading n s .k) (map (writable s) (reading n s .terms)) (written-reading m s (reading n s))
+  reading-decided z e = let w = accounted n s z in written-decided m e (reading n s .k) (w .ready) (w .headed)
 
-  none-formless : reading n s .number ≡ 0 → notation m ≡ true → written-reading m s (reading n s) ≡ none → Formless m (map (writable s) (reading n s .terms))
-  none-formless z e h = go (written-decided m e (reading n s .k) (accounted n s z .ready))
+  -- nothing is written where not all has a form
+  formless-none : reading n s .number ≡ 0 → notation m ≡ true → (FactorForm m (reading n s .k) → AllFormed m (map (writable s) (reading n s .terms)) → ⊥) → written-reading m s (reading n s) ≡ none
+  formless-none z e f = go (reading-decided z e)
     where
-      go : Decided m (map (writable s) (reading n s .terms)) (written-reading m s (reading n s)) → Formless m (map (writable s) (reading n s .terms))
-      go (Decided.formed fs t q) = absurd (none-some (sym h ∙ q))
-      go (Decided.unformed g q) = g
+      go : Decided m (reading n s .k) (map (writable s) (reading n s .terms)) (written-reading m s (reading n s)) → written-reading m s (reading n s) ≡ none
+      go (Decided.formed k fs t h) = absurd (f k fs)
+      go (Decided.unformed g h) = h
+      go (Decided.unfactored g h) = h
+
+  none-refuses : reading n s .number ≡ 0 → notation m ≡ true → written-reading m s (reading n s) ≡ none → Refuses n s m 12
+  none-refuses z e h = go (reading-decided z e)
+    where
+      go : Decided m (reading n s .k) (map (writable s) (reading n s .terms)) (written-reading m s (reading n s)) → Refuses n s m 12
+      go (Decided.formed k fs t q) = absurd (none-some (sym h ∙ q))
+      go (Decided.unformed g q) = Refuses.formless z e g
+      go (Decided.unfactored g q) = Refuses.factor-formless z e g
 
   -- a refusal that is due is answered, with nothing written
   pub refuses-answered : {i : ℕ} → Refuses n s m i → rewriting n s m ≡ refuse-rewriting i
   refuses-answered (Refuses.source {i = i} d) = refused-source i (bounds (d .holds) .0) (number-refused n s i (bounds (d .holds) .0) .1 d)
   refuses-answered (Refuses.target z c) = refused-target z c
-  refuses-answered (Refuses.formless z e f) = refused-form z e (formless-none z e f)
+  refuses-answered (Refuses.formless z e f) = refused-form z e (formless-none z e (λ k fs. not-formed f fs))
+  refuses-answered (Refuses.factor-formless z e f) = refused-form z e (formless-none z e (λ k fs. f k))
   refuses-answered (Refuses.long {t = t} z e h l) = refused-long t z e h l
 
   -- a refusal that is answered is due
@@ -299,7 +334,7 @@ module _ (n : ℕ) (s : List ℕ) (m : ℕ) where
           → unless a (reading n s .number) (unless b 1 (sized o)) .number ≡ i → Refuses n s m i
       go false b o p q e h = Refuses.source (number-refused n s i l .0 h)
       go true false o p q e h = rw (← h) (Refuses.target (eqb-true (reading n s .number) 0 p) q)
-      go true true none p q e h = rw (← h) (Refuses.formless (eqb-true (reading n s .number) 0 p) q (none-formless (eqb-true (reading n s .number) 0 p) q e))
+      go true true none p q e h = rw (← h) (none-refuses (eqb-true (reading n s .number) 0 p) q e)
       go true true (some t) p q e h = last t (leb (length t) most-bytes) refl (eqb-true (reading n s .number) 0 p) q e h
 
   -- Rewriting's number is that of the refusal that is due.
@@ -311,6 +346,7 @@ own-refuses : {i n : ℕ} {s : List ℕ} → Refuses n s n i → i ≡ 12 → �
 own-refuses (Refuses.source d) e = omega (arith, bounds (d .holds))
 own-refuses (Refuses.target z c) e = omega arith
 own-refuses {n = n} {s = s} (Refuses.formless z q f) e = not-formed f (accounted n s z .formed)
+own-refuses {n = n} {s = s} (Refuses.factor-formless z q f) e = f (accounted n s z .factored)
 own-refuses (Refuses.long z q h l) e = omega arith
 
 pub never-twelve : (n : ℕ) (s : List ℕ) → rewriting n s n .number ≡ 12 → ⊥

@@ -5,12 +5,13 @@ use mathlib.Core.Bool.{false}
 use mathlib.Core.List.{List, [], _∷_}
 use lib.Dec.{T}
 use Rattle.label.specs.declared.Rules.{Rules}
-use Rattle.label.specs.Rows.{fits-rules, ogip-rules, cds-rules, vounits-rules}
-use Rattle.label.specs.Lexical.{Numeral, Written, Factor, Part, Kind, quotient, Letters, Wrapped, Spaces}
+use Rattle.label.specs.Rows.{fits-rules, ogip-rules, cds-rules, vounits-rules, starlink-rules}
+use Rattle.label.specs.Lexical.{Numeral, Written, Factor, Part, Kind, quotient, Letters, TwoStars, Wrapped, Spaces}
 use Rattle.label.specs.Fits as Fits
 use Rattle.label.specs.Ogip as Ogip
 use Rattle.label.specs.Cds as Cds
 use Rattle.label.specs.Vounits as Vounits
+use Rattle.label.specs.Starlink as Starlink
 use Rattle.label.proofs.General.{SpellingBy, ExponentBy, Pad, TimesBy, OverBy, G, flat, WrappedBy, FactorBy, GapBy, LabelBy}
 use Rattle.label.proofs.Joints.{opens}
 use Rattle.label.proofs.Labels.{Starts, quotient-starts}
@@ -33,6 +34,18 @@ wrapped-by f (Wrapped.bracketed i) = WrappedBy.bracketed f i
 by-wrapped : {r : Rules} {e : List ℕ} {n : Numeral} → WrappedBy r e n → Wrapped e n
 by-wrapped (WrappedBy.bare i) = Wrapped.bare i
 by-wrapped (WrappedBy.bracketed f i) = Wrapped.bracketed i
+
+starred-by : {r : Rules} {e : List ℕ} {w : Written} → T (r .stars) → TwoStars e w → ExponentBy r e w
+starred-by f TwoStars.none = ExponentBy.none
+starred-by f (TwoStars.raised p) = ExponentBy.stars f p
+
+-- the rules have no other exponent
+by-starred : {r : Rules} {e : List ℕ} {w : Written} → r .direct ≡ false → r .brackets ≡ false → r .caret ≡ false → ExponentBy r e w → TwoStars e w
+by-starred d b c ExponentBy.none = TwoStars.none
+by-starred d b c (ExponentBy.integer f i) = absurd (rw d at f)
+by-starred d b c (ExponentBy.bracketed f i) = absurd (rw b at f)
+by-starred d b c (ExponentBy.stars f p) = TwoStars.raised p
+by-starred d b c (ExponentBy.caret f p) = absurd (rw c at f)
 
 -- FITS
 
@@ -112,14 +125,6 @@ label-fits (LabelBy.factored l x g d) = Fits.Label.factored (factor-fits x) (gap
 
 -- OGIP
 
-ogip-exponent : {e : List ℕ} {w : Written} → Ogip.Exponent e w → ExponentBy ogip-rules e w
-ogip-exponent Ogip.Exponent.none = ExponentBy.none
-ogip-exponent (Ogip.Exponent.stars p) = ExponentBy.stars tt p
-
-exponent-ogip : {e : List ℕ} {w : Written} → ExponentBy ogip-rules e w → Ogip.Exponent e w
-exponent-ogip ExponentBy.none = Ogip.Exponent.none
-exponent-ogip (ExponentBy.stars f p) = Ogip.Exponent.stars p
-
 spaces-pad : {a : List ℕ} → Spaces a → Pad ogip-rules a
 spaces-pad Spaces.none = Pad.none
 spaces-pad (Spaces.space p) = Pad.space tt (spaces-pad p)
@@ -146,7 +151,7 @@ pub spelling-ogip : {l : List ℕ} → SpellingBy ogip-rules l → Letters l
 spelling-ogip (SpellingBy.letters d) = d
 
 ogip-to : {x : Kind} {s t : List ℕ} {ps : List Part} → Ogip.Ogip x s t ps → G ogip-rules x s t ps
-ogip-to (Ogip.Ogip.unit l e) = G.unit (SpellingBy.letters l) (ogip-exponent e)
+ogip-to (Ogip.Ogip.unit l e) = G.unit (SpellingBy.letters l) (starred-by tt e)
 ogip-to (Ogip.Ogip.first d m) = G.first (ogip-to d) (ogip-to m)
 ogip-to Ogip.Ogip.done = G.done
 ogip-to (Ogip.Ogip.times j d m) = G.times (ogip-times j) (ogip-to d) (ogip-to m)
@@ -155,7 +160,7 @@ ogip-to (Ogip.Ogip.under j d m) = G.under (ogip-over j) (ogip-to d) (ogip-to m)
 ogip-to (Ogip.Ogip.group d) = G.group (ogip-to d)
 
 to-ogip : {x : Kind} {s t : List ℕ} {ps : List Part} → G ogip-rules x s t ps → Ogip.Ogip (flat x) s t ps
-to-ogip (G.unit l e) = Ogip.Ogip.unit (spelling-ogip l) (exponent-ogip e)
+to-ogip (G.unit l e) = Ogip.Ogip.unit (spelling-ogip l) (by-starred refl refl refl e)
 to-ogip (G.group d) = Ogip.Ogip.group (to-ogip d)
 to-ogip (G.first d m) = Ogip.Ogip.first (to-ogip d) (to-ogip m)
 to-ogip (G.under j d m) = Ogip.Ogip.under (over-ogip j) (to-ogip d) (to-ogip m)
@@ -246,14 +251,6 @@ label-cds (LabelBy.factored l x GapBy.nothing d) = Cds.Label.factored (factor-cd
 
 -- VOUNITS
 
-vounits-exponent : {e : List ℕ} {w : Written} → Vounits.Exponent e w → ExponentBy vounits-rules e w
-vounits-exponent Vounits.Exponent.none = ExponentBy.none
-vounits-exponent (Vounits.Exponent.stars p) = ExponentBy.stars tt p
-
-exponent-vounits : {e : List ℕ} {w : Written} → ExponentBy vounits-rules e w → Vounits.Exponent e w
-exponent-vounits ExponentBy.none = Vounits.Exponent.none
-exponent-vounits (ExponentBy.stars f p) = Vounits.Exponent.stars p
-
 pub vounits-spelling : {l : List ℕ} → Vounits.Spelling l → SpellingBy vounits-rules l
 vounits-spelling (Vounits.Spelling.letters d) = SpellingBy.letters d
 vounits-spelling (Vounits.Spelling.quoted d) = SpellingBy.quoted tt d
@@ -263,7 +260,7 @@ spelling-vounits (SpellingBy.letters d) = Vounits.Spelling.letters d
 spelling-vounits (SpellingBy.quoted f d) = Vounits.Spelling.quoted d
 
 vounits-to : {x : Kind} {s t : List ℕ} {ps : List Part} → Vounits.Vounits x s t ps → G vounits-rules x s t ps
-vounits-to (Vounits.Vounits.unit l e) = G.unit (vounits-spelling l) (vounits-exponent e)
+vounits-to (Vounits.Vounits.unit l e) = G.unit (vounits-spelling l) (starred-by tt e)
 vounits-to (Vounits.Vounits.first d m) = G.first (vounits-to d) (vounits-to m)
 vounits-to Vounits.Vounits.done = G.done
 vounits-to (Vounits.Vounits.times d m) = G.times (TimesBy.point tt Pad.none Pad.none) (vounits-to d) (vounits-to m)
@@ -272,7 +269,7 @@ vounits-to (Vounits.Vounits.over d i) = G.divided tt (vounits-to d) (vounits-to 
 vounits-to (Vounits.Vounits.group d) = G.group (vounits-to d)
 
 to-vounits : {x : Kind} {s t : List ℕ} {ps : List Part} → G vounits-rules x s t ps → Vounits.Vounits x s t ps
-to-vounits (G.unit l e) = Vounits.Vounits.unit (spelling-vounits l) (exponent-vounits e)
+to-vounits (G.unit l e) = Vounits.Vounits.unit (spelling-vounits l) (by-starred refl refl refl e)
 to-vounits (G.group d) = Vounits.Vounits.group (to-vounits d)
 to-vounits (G.first d m) = Vounits.Vounits.first (to-vounits d) (to-vounits m)
 to-vounits (G.under (OverBy.slashed f p q) d m) = absurd f
@@ -299,3 +296,36 @@ pub label-vounits : {s : List ℕ} {f : Factor} {ps : List Part} → LabelBy vou
 label-vounits LabelBy.empty = Vounits.Label.empty
 label-vounits (LabelBy.plain u d) = Vounits.Label.plain (to-vounits d)
 label-vounits (LabelBy.factored l x GapBy.nothing d) = Vounits.Label.factored (factor-vounits x) (to-vounits d)
+
+-- STARLINK
+
+starlink-to : {x : Kind} {s t : List ℕ} {ps : List Part} → Starlink.Starlink x s t ps → G starlink-rules x s t ps
+starlink-to (Starlink.Starlink.first d m) = G.first (starlink-to d) (starlink-to m)
+starlink-to Starlink.Starlink.done = G.done
+starlink-to (Starlink.Starlink.times d m) = G.times (TimesBy.star tt Pad.none Pad.none) (starlink-to d) (starlink-to m)
+starlink-to (Starlink.Starlink.unit l e) = G.unit (SpellingBy.letters l) (starred-by tt e)
+starlink-to (Starlink.Starlink.plain d) = G.plain (starlink-to d)
+starlink-to (Starlink.Starlink.over d i) = G.divided tt (starlink-to d) (starlink-to i)
+starlink-to (Starlink.Starlink.group d) = G.group (starlink-to d)
+
+pub spelling-starlink : {l : List ℕ} → SpellingBy starlink-rules l → Letters l
+spelling-starlink (SpellingBy.letters d) = d
+
+to-starlink : {x : Kind} {s t : List ℕ} {ps : List Part} → G starlink-rules x s t ps → Starlink.Starlink x s t ps
+to-starlink (G.unit l e) = Starlink.Starlink.unit (spelling-starlink l) (by-starred refl refl refl e)
+to-starlink (G.group d) = Starlink.Starlink.group (to-starlink d)
+to-starlink (G.first d m) = Starlink.Starlink.first (to-starlink d) (to-starlink m)
+to-starlink (G.under (OverBy.slashed f p q) d m) = absurd f
+to-starlink G.done = Starlink.Starlink.done
+to-starlink (G.times (TimesBy.star f Pad.none Pad.none) d m) = Starlink.Starlink.times (to-starlink d) (to-starlink m)
+to-starlink (G.over (OverBy.slashed f p q) d m) = absurd f
+to-starlink (G.plain d) = Starlink.Starlink.plain (to-starlink d)
+to-starlink (G.divided f d i) = Starlink.Starlink.over (to-starlink d) (to-starlink i)
+
+pub starlink-label : {s : List ℕ} {f : Factor} {ps : List Part} → Starlink.Label s f ps → LabelBy starlink-rules s f ps
+starlink-label Starlink.Label.empty = LabelBy.empty
+starlink-label (Starlink.Label.plain d) = plain-label refl (starlink-to d)
+
+pub label-starlink : {s : List ℕ} {f : Factor} {ps : List Part} → LabelBy starlink-rules s f ps → Starlink.Label s f ps
+label-starlink LabelBy.empty = Starlink.Label.empty
+label-starlink (LabelBy.plain u d) = Starlink.Label.plain (to-starlink d)

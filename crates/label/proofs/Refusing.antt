@@ -1,7 +1,7 @@
 -- Refusals with a lent buffer: 14 exactly when the buffer is shorter than the result, and the others as without a buffer.
 use Prim.Native.Nat.{ℕ, _≤_, _<_}
 use native.Mathlib.Omega.{arith}
-use mathlib.Core.Path.{_≡_, refl, ap, _∙_}
+use mathlib.Core.Path.{_≡_, refl}
 use mathlib.Core.Logic.{_↔_}
 use mathlib.Core.Bool.{Bool, true, false}
 use mathlib.Core.List.{List}
@@ -16,6 +16,7 @@ below-fourteen : {n m i : ℕ} {s : List ℕ} → Refuses n s m i → i ≤ 13
 below-fourteen (Refuses.source d) = omega (arith, bounds (d .holds))
 below-fourteen (Refuses.target z c) = omega arith
 below-fourteen (Refuses.formless z t f) = omega arith
+below-fourteen (Refuses.factor-formless z t f) = omega arith
 below-fourteen (Refuses.long z t w l) = omega arith
 
 module _ (size n : ℕ) (s : List ℕ) (m : ℕ) where

@@ -23,7 +23,7 @@ use Rattle.label.specs.Split.{Placed, valued-unit, valued-units, valued-
 use Rattle.label.specs.Reading.{term, Reading, reading-of, accept, unless, check-counts, check-values, check-grammar, checked, answered, reading}
 use Rattle.label.specs.Agreement.{Raised, raised-term}
 use Rattle.label.specs.Letters.{prefix-letters}
-use Rattle.label.specs.Writing.{sign-text, figures, factor-text, exponent-text, name-in, named-text, symbol-text, own-letters, writable, written-reading, Writable, both-texts, unit-text, more-text, label-text, written-by, written}
+use Rattle.label.specs.Writing.{sign-text, figures, tens-text, factor-text, exponent-text, name-in, named-text, symbol-text, own-letters, writable, written-reading, Writable, both-texts, unit-text, more-text, label-text, written-by, written}
 use Rattle.label.specs.Rows.{Style, style-of}
 use Rattle.label.proofs.Basics.{none-some, T→true, true→T}
 use Rattle.label.proofs.General.{G, LabelBy}
@@ -172,13 +172,13 @@ factor-value : (z : ℤ) (ds : List ℕ) → Digited (natAbs z) ds → natAbs z 
 unfolding k-of
 factor-value z ds d h = rw (d .short, d .value, le-leb (natAbs z) largest-k h, signed-size z)
 
-factored-label : {y : Style} {m : ℕ} {r : Rules} {w : Writable} {ws : List Writable} {s t : List ℕ} (k : Tens) → Suits y r → 1 ≤ natAbs (k .0) → natAbs (k .0) ≤ largest-k → UnitRead y m r w s → MoreRead y m r ws t
-    → LabelReadBack y m r k (w ∷ ws) (((y .ten ++ (sign-text (y .signed) (negative (k .0)) ++ figures (natAbs (k .0)))) ++ y .gap) ++ (s ++ t))
-factored-label {y} {s = s} {t = t} k v low high u x = record {
+factored-label : {y : Style} {m : ℕ} {r : Rules} {w : Writable} {ws : List Writable} {s t : List ℕ} (k : Tens) → Suits y r → y .factors ≡ true → 1 ≤ natAbs (k .0) → natAbs (k .0) ≤ largest-k → UnitRead y m r w s → MoreRead y m r ws t
+    → LabelReadBack y m r k (w ∷ ws) (tens-text y k ++ (s ++ t))
+factored-label {y} {s = s} {t = t} k v f low high u x = record {
   factor = ten-to (record { negative = negative (k .0); digits = figures (natAbs (k .0)) });
   parts = part (u .spelling) (u .power .power) (u .raised ++ t) ∷ x .parts;
   derived = rw (append-assoc (y .ten ++ (sign-text (y .signed) (negative (k .0)) ++ figures (natAbs (k .0)))) (y .gap) (s ++ t))
-      (LabelBy.factored (true→T (v .agrees .may-lead)) (v .factor (negative (k .0)) (d .unsigned)) (v .gap) (product-derived u x));
+      (LabelBy.factored (true→T (sym (v .agrees .factors) ∙ f)) (v .factor f (negative (k .0)) (d .unsigned)) (v .gap) (product-derived u x));
   answers = unit-answers u (u .raised ++ t) (x .answers);
   power = factor-value (k .0) (figures (natAbs (k .0))) d high;
   fine = fine-append (fine-append (fine-append (fine-quiet (y .ten) (v .agrees .quiet-ten)) numeral) (fine-quiet (y .gap) (v .agrees .quiet-gap))) (fine-append (unit-fine u) (x .fine));
@@ -190,7 +190,7 @@ factored-label {y} {s = s} {t = t} k v low high u x = record {
     numeral : Fine (sign-text (y .signed) (negative (k .0)) ++ figures (natAbs (k .0)))
     numeral = fine-append (fine-quiet (sign-text (y .signed) (negative (k .0))) (sign-quiet (y .signed) (negative (k .0)))) (fine-quiet (figures (natAbs (k .0))) (unsigned-quiet (d .unsigned)))
 
-no-size : (z : ℤ) → natAbs z ≡ 0 → z ≡ pos 0
+pub no-size : (z : ℤ) → natAbs z ≡ 0 → z ≡ pos 0
 no-size (pos n) e = ap pos e
 no-size (negsuc n) e = absurd (omega arith)
 
@@ -204,15 +204,17 @@ label-read v o k AllReady.done high z t h =
     let e : [] ≡ t = cc in
     rw (← e) (record { factor = no-factor; parts = []; derived = LabelBy.empty; answers = UnitsRead.nothing; power = ap (λ (x : Tens). some x) (sym (z refl)); fine = fine-quiet [] tt })
 label-read {y} {r} {m} v o k (AllReady.also {w = w} {ws = ws} i is) high z t h =
-    let b = both-of (some (factor-text y k)) (both-texts (unit-text y m w) (more-text y m ws)) t h in
+    let b = both-of (factor-text y k) (both-texts (unit-text y m w) (more-text y m ws)) t h in
     let c = both-of (unit-text y m w) (more-text y m ws) (b .two) (b .second) in
-    let e : factor-text y k ≡ b .one = cc in
-    rw (← (b .is), ← e, ← (c .is)) (go (c .one) (c .two) (eqb (natAbs (k .0)) 0) refl (unit-read v o w i (c .one) (c .first)) (more-read v o is (c .two) (c .second)))
+    rw (← (b .is), ← (c .is)) (go (b .one) (c .one) (c .two) (eqb (natAbs (k .0)) 0) (y .factors) refl refl (b .first) (unit-read v o w i (c .one) (c .first)) (more-read v o is (c .two) (c .second)))
   where
-    go : (s u : List ℕ) (x : Bool) → eqb (natAbs (k .0)) 0 ≡ x → UnitRead y m r w s → MoreRead y m r ws u
-        → LabelReadBack y m r k (w ∷ ws) (pick x [] ((y .ten ++ (sign-text (y .signed) (negative (k .0)) ++ figures (natAbs (k .0)))) ++ y .gap) ++ (s ++ u))
-    go s u true f d x = plain-label k (no-tens k (eqb-true (natAbs (k .0)) 0 f)) d x
-    go s u false f d x = factored-label k v (omega (arith, eqb-false (natAbs (k .0)) 0 f)) high d x
+    go : (x s u : List ℕ) (a b : Bool) → eqb (natAbs (k .0)) 0 ≡ a → y .factors ≡ b → pick a (some []) (pick b (some (tens-text y k)) none) ≡ some x
+        → UnitRead y m r w s → MoreRead y m r ws u → LabelReadBack y m r k (w ∷ ws) (x ++ (s ++ u))
+    go x s u true b p q h d ds = let e : [] ≡ x = cc in rw (← e) (plain-label k (no-tens k (eqb-true (natAbs (k .0)) 0 p)) d ds)
+    go x s u false true p q h d ds =
+        let e : tens-text y k ≡ x = cc in
+        rw (← e) (factored-label k v q (omega (arith, eqb-false (natAbs (k .0)) 0 p)) high d ds)
+    go x s u false false p q h d ds = absurd (none-some h)
 
 -- WRITING AGAIN
 

@@ -7,19 +7,19 @@ use mathlib.Core.Option.{Option, some}
 use lib.Dec.{T, eqb}
 use borrow.Author.Tests.{eqb-true}
 use Rattle.label.specs.declared.Rules.{Rules}
-use Rattle.label.specs.Bytes.{bytes, point, admitted, all}
-use Rattle.label.specs.Notations.{Notations, member, everywhere, fractionless, notation}
-use Rattle.label.specs.Rows.{fits-rules, ogip-rules, cds-rules, vounits-rules, ruled, rules-of, Row, value-among, Style, fits-style, ogip-style, cds-style, vounits-style, styled, style-of}
+use Rattle.label.specs.Bytes.{bytes, point, star, admitted, all}
+use Rattle.label.specs.Notations.{Notations, member, everywhere, fractionless, factorless, notation}
+use Rattle.label.specs.Rows.{fits-rules, ogip-rules, cds-rules, vounits-rules, starlink-rules, ruled, rules-of, Row, value-among, Style, fits-style, ogip-style, cds-style, vounits-style, starlink-style, styled, style-of}
 use Rattle.label.specs.Lexical.{Factor, Part, Power}
 use Rattle.label.specs.Grammar.{Derives, Spelling}
 use Rattle.label.proofs.Basics.{false-true, none-some}
 use Rattle.label.proofs.General.{Pad, TimesBy, ExponentBy, WrappedBy, FactorBy, GapBy, SpellingBy, LabelBy}
 use Rattle.label.proofs.Labels.{Coherent}
-use Rattle.label.proofs.Instances.{fits-label, label-fits, spelling-fits, ogip-label, label-ogip, spelling-ogip, cds-label, label-cds, cds-spelling, spelling-cds, vounits-label, label-vounits, vounits-spelling, spelling-vounits}
+use Rattle.label.proofs.Instances.{fits-label, label-fits, spelling-fits, ogip-label, label-ogip, spelling-ogip, cds-label, label-cds, cds-spelling, spelling-cds, vounits-label, label-vounits, vounits-spelling, spelling-vounits, starlink-label, label-starlink, spelling-starlink}
 use Rattle.label.proofs.Texts.{quiet}
 use Rattle.label.proofs.Styles.{Suits, integer-by, signed-by}
 
--- notation n has the rules r and the style y in the tables, and they are what document 01 says of single notations
+-- notation n has the rules r and the style y in the tables, and they are what documents 01 and 02 say of single notations
 pub record Listed (n : ℕ) (r : Rules) (y : Style) : Type 0 where
   pub is-notation : notation n ≡ true
   pub rules : rules-of n ≡ some r
@@ -28,6 +28,7 @@ pub record Listed (n : ℕ) (r : Rules) (y : Style) : Type 0 where
   pub percent : r .percent ≡ eqb n 3
   pub raised : (r .brackets || (r .stars || r .caret)) ≡ not (member n fractionless)
   pub fractions : y .fractions ≡ not (member n fractionless)
+  pub factors : y .factors ≡ not (member n factorless)
 
 -- notation n has the rules r
 pub record RuledBy (n : ℕ) (r : Rules) : Type 0 where
@@ -44,12 +45,20 @@ pub record RuledBy (n : ℕ) (r : Rules) : Type 0 where
 point-alone : {r : Rules} → T (r .point) → TimesBy r (point ∷ [])
 point-alone e = TimesBy.point e Pad.none Pad.none
 
+star-alone : {r : Rules} → T (r .star) → TimesBy r (star ∷ [])
+star-alone e = TimesBy.star e Pad.none Pad.none
+
+-- where no factor has a form, none needs to be read
+no-factor-by : {r : Rules} {x : List ℕ} {f : Factor} → false ≡ true → FactorBy r x f
+no-factor-by e = absurd (false-true e)
+
 -- the forms in which a style writes, and what is computed of it
 ruleset forms = (
   tt,
   false-true,
   TimesBy.space,
   point-alone,
+  star-alone,
   Pad.none,
   ExponentBy.integer,
   ExponentBy.bracketed,
@@ -58,6 +67,7 @@ ruleset forms = (
   Power.bracketed,
   FactorBy.stars,
   FactorBy.signed,
+  no-factor-by,
   WrappedBy.bare,
   integer-by,
   signed-by,
@@ -105,18 +115,30 @@ vounits-ruled = record {
   suits = search forms;
 }
 
+starlink-ruled : RuledBy 5 starlink-rules
+unfolding bytes all quiet admitted member notation value-among rules-of ruled style-of styled
+starlink-ruled = record {
+  derives = λ d. Derives.starlink (label-starlink d);
+  spells = λ d. Spelling.starlink (spelling-starlink d);
+  style = starlink-style;
+  listed = search;
+  suits = search forms;
+}
+
 -- a notation's derivations are those of the general grammar by its rules
 pub derives-by : {n : ℕ} {s : List ℕ} {f : Factor} {ps : List Part} → Derives n s f ps → (r : Rules) × RuledBy n r × LabelBy r s f ps
 derives-by (Derives.fits d) = (fits-rules, fits-ruled, fits-label d)
 derives-by (Derives.ogip d) = (ogip-rules, ogip-ruled, ogip-label d)
 derives-by (Derives.cds d) = (cds-rules, cds-ruled, cds-label d)
 derives-by (Derives.vounits d) = (vounits-rules, vounits-ruled, vounits-label d)
+derives-by (Derives.starlink d) = (starlink-rules, starlink-ruled, starlink-label d)
 
 spelling-by : {n : ℕ} {l : List ℕ} → Spelling n l → (r : Rules) × RuledBy n r × SpellingBy r l
 spelling-by (Spelling.fits d) = (fits-rules, fits-ruled, SpellingBy.letters d)
 spelling-by (Spelling.ogip d) = (ogip-rules, ogip-ruled, SpellingBy.letters d)
 spelling-by (Spelling.cds d) = (cds-rules, cds-ruled, cds-spelling d)
 spelling-by (Spelling.vounits d) = (vounits-rules, vounits-ruled, vounits-spelling d)
+spelling-by (Spelling.starlink d) = (starlink-rules, starlink-ruled, SpellingBy.letters d)
 
 -- a notation has no other rules
 rules-once : {n : ℕ} {r q : Rules} → RuledBy n r → rules-of n ≡ some q → r ≡ q
@@ -131,7 +153,7 @@ data AllRuled : Notations → Type 0 where
   also : {n : ℕ} {r : Rules} {ns : Notations} → RuledBy n r → AllRuled ns → AllRuled (n ∷ ns)
 
 all-ruled : AllRuled everywhere
-all-ruled = AllRuled.also fits-ruled (AllRuled.also ogip-ruled (AllRuled.also cds-ruled (AllRuled.also vounits-ruled AllRuled.done)))
+all-ruled = AllRuled.also fits-ruled (AllRuled.also ogip-ruled (AllRuled.also cds-ruled (AllRuled.also vounits-ruled (AllRuled.also starlink-ruled AllRuled.done))))
 
 -- FROM A NUMBER TO ITS NOTATION
 
@@ -176,9 +198,10 @@ pub record Suited (m : ℕ) (y : Style) : Type 0 where
   pub ruled : RuledBy m rules
   pub suits : Suits y rules
   pub fractions : y .fractions ≡ not (member m fractionless)
+  pub factors : y .factors ≡ not (member m factorless)
 
 abbrev pub ruled-suited : {m : ℕ} {r : Rules} (o : RuledBy m r) → Suited m (o .style)
-ruled-suited {r = r} o = record { rules = r; ruled = o; suits = o .suits; fractions = o .listed .fractions }
+ruled-suited {r = r} o = record { rules = r; ruled = o; suits = o .suits; fractions = o .listed .fractions; factors = o .listed .factors }
 
 pub suited : (m : ℕ) (y : Style) → style-of m ≡ some y → Suited m y
 suited m y h =

@@ -138,6 +138,14 @@ k-headed (LabelBy.plain u d) k h e = cc
 k-headed (LabelBy.under f d) k h e = cc
 k-headed (LabelBy.factored l f w d) k h e = absurd (omega (arith, filled-length (parts-filled d refl)))
 
+-- k is 0 where no factor may lead
+pub unled-k : {r : Rules} {s : List ℕ} {f : Factor} {ps : List Part} → LabelBy r s f ps → (k : Tens) → k-of f ≡ some k → r .factor ≡ false → k ≡ record { 0 = pos 0 }
+unfolding k-of
+unled-k LabelBy.empty k h e = cc
+unled-k (LabelBy.plain u d) k h e = cc
+unled-k (LabelBy.under f d) k h e = cc
+unled-k (LabelBy.factored l f w d) k h e = absurd (rw e at l)
+
 -- THE SOURCE
 
 pub valued-k : (f : Factor) (ps : List Part) (v : Valued) → valued f ps ≡ some v → k-of f ≡ some (v .k)

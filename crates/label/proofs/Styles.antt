@@ -15,7 +15,7 @@ use Rattle.label.proofs.Texts.{quiet}
 -- what the rows of a style and of the rules by which its texts are read say
 pub record Agrees (y : Style) (r : Rules) : Type 0 where
   pub quotes : y .quotes ≡ r .quotes
-  pub may-lead : r .factor ≡ true
+  pub factors : y .factors ≡ r .factor
   pub quiet-joint : T (all quiet (y .joint))
   pub quiet-raise : T (all quiet (y .raise))
   pub quiet-ten : T (all quiet (y .ten))
@@ -27,7 +27,7 @@ pub record Suits (y : Style) (r : Rules) : Type 0 where
   pub joint : TimesBy r (y .joint)
   pub whole : {s : List ℕ} {n : Numeral} → Integer s n → ExponentBy r (y .raise ++ s) (whole n)
   pub brackets : (y .wrapped || y .fractions) ≡ true → {s : List ℕ} {w : Written} → Bracketed s w → ExponentBy r (y .raise ++ s) w
-  pub factor : (b : Bool) {ds : List ℕ} → Unsigned ds → FactorBy r (y .ten ++ (sign-text (y .signed) b ++ ds)) (ten-to (record { negative = b; digits = ds }))
+  pub factor : y .factors ≡ true → (b : Bool) {ds : List ℕ} → Unsigned ds → FactorBy r (y .ten ++ (sign-text (y .signed) b ++ ds)) (ten-to (record { negative = b; digits = ds }))
   pub gap : GapBy r (y .gap)
 
 -- an integer without a plus

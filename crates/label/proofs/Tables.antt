@@ -4,6 +4,7 @@ use mathlib.Core.Path.{_≡_, refl, sym, ap, _∙_}
 use mathlib.Core.Bool.{Bool, true, false, _&&_, _||_, not}
 use mathlib.Core.List.{List, [], _∷_, map}
 use mathlib.Core.Logic.{_⊎_, inl, inr}
+use mathlib.Core.Option.{Option, none, some}
 use lib.Dec.{T, eqb}
 use lib.IntN.{ℤ, pos, _+ℤ_, +ℤ-idl, +ℤ-idr}
 use lib.ListN.{getD}
@@ -13,7 +14,8 @@ use Rattle.label.proofs.Computing.{symbols-compute}
 use Rattle.label.proofs.Cuts.{all-members}
 use Rattle.label.specs.Bytes.{bytes, same, all}
 use Rattle.label.specs.Choice.{pick}
-use Rattle.label.specs.Notations.{cds, vounits, everywhere, member, notation}
+use Rattle.label.specs.Notations.{ogip, cds, vounits, starlink, everywhere, member, notation}
+use Rattle.label.specs.Symbols.{has-name, row-named, unit-named}
 use Rattle.label.specs.Units.{BasePower, _↑_, ten-to, Name, KnownUnit, bare, units, unit-at, base-power, multiplicity}
 use Rattle.label.specs.Meaning.{_∈_, Named, prefixable, Prefixable, among, arcsec, unrecommended, PowerIn, listed, unlisted, Product}
 
@@ -101,6 +103,67 @@ shared-shares (x ∷ xs) ls l (inr g) h = or-right (is-in x ls) (shares xs ls) (
 
 abbrev names-of : KnownUnit → List (List ℕ)
 names-of u = map (λ (x : Name). x .letters) (u .names)
+
+-- WHICH NAMES STARLINK KNOWS
+
+-- "with Ang in place of angstrom"
+abbrev apart : List (List ℕ)
+apart = map bytes ("Ang" ∷ "angstrom" ∷ [])
+
+-- any other name is known in Starlink and in OGIP, or in neither
+names-shared : List Name → Bool
+names-shared [] = true
+names-shared (x ∷ xs) = (is-in (x .letters) apart || alike (member starlink (x .known-in)) (member ogip (x .known-in))) && names-shared xs
+
+all-names-shared : T (all-rows (λ u. names-shared (u .names)) units)
+unfolding names-shared all-rows alike is-in symbols-compute
+all-names-shared = tt
+
+module _ (l : List ℕ) (h : is-in l apart ≡ false) where
+  names-as-ogip : (xs : List Name) → T (names-shared xs) → has-name starlink l xs ≡ has-name ogip l xs
+  unfolding names-shared has-name
+  names-as-ogip [] t = refl
+  names-as-ogip (x ∷ xs) t = go (same l (x .letters)) refl (names-as-ogip xs (passed .1))
+    where
+      passed : T (is-in (x .letters) apart || alike (member starlink (x .known-in)) (member ogip (x .known-in))) × T (names-shared xs)
+      passed = both (is-in (x .letters) apart || alike (member starlink (x .known-in)) (member ogip (x .known-in))) (names-shared xs) t
+
+      known : (m : List ℕ) → m ≡ l → T (is-in m apart || alike (member starlink (x .known-in)) (member ogip (x .known-in))) → member starlink (x .known-in) ≡ member ogip (x .known-in)
+      known m e t = alike-is (member starlink (x .known-in)) (member ogip (x .known-in)) (rw (e, h) at t)
+
+      go : (b : Bool) → same l (x .letters) ≡ b → has-name starlink l xs ≡ has-name ogip l xs
+          → ((b && member starlink (x .known-in)) || has-name starlink l xs) ≡ ((b && member ogip (x .known-in)) || has-name ogip l xs)
+      go true e ih = rw (known (x .letters) (sym (same-is l (x .letters) e)) (passed .0), ih)
+      go false e ih = ih
+
+  rows-as-ogip : (i : ℕ) (us : List KnownUnit) → T (all-rows (λ u. names-shared (u .names)) us) → row-named starlink l i us ≡ row-named ogip l i us
+  unfolding all-rows row-named
+  rows-as-ogip i [] t = refl
+  rows-as-ogip i (u ∷ us) t =
+      let w = both (names-shared (u .names)) (all-rows (λ u. names-shared (u .names)) us) t in
+      rw (row-named, names-as-ogip (u .names) (w .0))
+      (ap (λ (o : Option ℕ). elim (has-name ogip l (u .names)) as (λ (z : Bool). Option ℕ) [ true ↦ some i | false ↦ o ]) (rows-as-ogip (suc i) us (w .1)))
+
+-- "Known symbols are OGIP's, with Ang in place of angstrom"
+pub starlink-as-ogip : (l : List ℕ) → (l ≡ bytes "Ang" → ⊥) → (l ≡ bytes "angstrom" → ⊥) → unit-named starlink l ≡ unit-named ogip l
+unfolding unit-named
+starlink-as-ogip l f g = go (is-in l apart) refl
+  where
+    go : (b : Bool) → is-in l apart ≡ b → row-named starlink l 0 units ≡ row-named ogip l 0 units
+    go true e = absurd (neither (is-in-in l apart e))
+      where
+        neither : l ∈ apart → ⊥
+        neither (inl e) = f e
+        neither (inr (inl e)) = g e
+    go false e = rows-as-ogip l e 0 units all-names-shared
+
+pub ang-for-angstrom : (u : ℕ) × (unit-named starlink (bytes "Ang") ≡ some u) × (unit-named ogip (bytes "angstrom") ≡ some u)
+unfolding symbols-compute
+ang-for-angstrom = (59, refl, refl)
+
+pub not-both : (unit-named starlink (bytes "angstrom") ≡ none) × (unit-named ogip (bytes "Ang") ≡ none)
+unfolding symbols-compute
+not-both = (refl, refl)
 
 -- WHERE A PREFIX IS LAWFUL
 

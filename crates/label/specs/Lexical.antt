@@ -4,7 +4,7 @@ use mathlib.Core.Bool.{Bool, true, false, not}
 use mathlib.Core.List.{List, [], _∷_, _++_, map}
 use lib.Dec.{T}
 use lib.ListN.{length}
-use Rattle.label.specs.Bytes.{space as space-byte, quote, open-bracket, close-bracket, plus, minus, point, slash, digit-zero, digit-one, letter, digit, nonzero, all}
+use Rattle.label.specs.Bytes.{space as space-byte, quote, open-bracket, close-bracket, plus, minus, star, point, slash, digit-zero, digit-one, letter, digit, nonzero, all}
 use Rattle.label.specs.Prefixes.{prefix-name}
 
 -- WHAT A LABEL IS READ INTO
@@ -106,6 +106,11 @@ pub data Bracketed : List ℕ → Written → Type 0 where
 pub data Power : List ℕ → Written → Type 0 where
   integer : {s : List ℕ} {n : Numeral} → Integer s n → Power s (whole n)
   bracketed : {s : List ℕ} {w : Written} → Bracketed s w → Power s w
+
+-- "** and a power", or nothing
+pub data TwoStars : List ℕ → Written → Type 0 where
+  none : TwoStars [] unwritten
+  raised : {s : List ℕ} {w : Written} → Power s w → TwoStars (star ∷ star ∷ s) w
 
 -- FACTORS
 

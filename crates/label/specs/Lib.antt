@@ -10,6 +10,7 @@ pub mod Fits
 pub mod Ogip
 pub mod Cds
 pub mod Vounits
+pub mod Starlink
 pub mod Grammar
 pub mod Parse
 pub mod Limits

@@ -5,7 +5,7 @@ use mathlib.Core.Bool.{false}
 use mathlib.Core.List.{List, [], _∷_, _++_}
 use lib.Dec.{eqb}
 use Rattle.label.specs.Bytes.{space as space-byte, open-bracket, close-bracket, star as star-byte, slash, digit-zero, digit-one}
-use Rattle.label.specs.Lexical.{Numeral, Written, unwritten, Factor, no-factor, ten-to, zeros, Part, part, turned-all, Kind, item, more, product, Letters, Power, Wrapped, Plain, Spaces}
+use Rattle.label.specs.Lexical.{Numeral, Written, Factor, no-factor, ten-to, zeros, Part, part, turned-all, Kind, item, more, product, Letters, TwoStars, Wrapped, Plain, Spaces}
 
 -- "joined by one or more spaces, a star, or a slash, the last two with any spaces on each side"
 pub data Times : List ℕ → Type 0 where
@@ -15,16 +15,12 @@ pub data Times : List ℕ → Type 0 where
 pub data Over : List ℕ → Type 0 where
   slashed : {a b : List ℕ} → Spaces a → Spaces b → Over (a ++ slash ∷ b)
 
--- "Exponent: ** and a power."
-pub data Exponent : List ℕ → Written → Type 0 where
-  none : Exponent [] unwritten
-  stars : {e : List ℕ} {w : Written} → Power e w → Exponent (star-byte ∷ star-byte ∷ e) w
-
 -- Ogip x s t ps: the text s begins with an x, which ends where t begins, and ps are its units.
 pub data Ogip : Kind → List ℕ → List ℕ → List Part → Type 0 where
+  -- "Exponent: ** and a power."
+  unit : {l e t : List ℕ} {w : Written} → Letters l → TwoStars e w → Ogip item (l ++ (e ++ t)) t (part l w (e ++ t) ∷ [])
   -- "Units or groups joined by one or more spaces, a star, or a slash, the last two with any spaces on each side."
   -- "Each slash turns over only the next unit or group."
-  unit : {l e t : List ℕ} {w : Written} → Letters l → Exponent e w → Ogip item (l ++ (e ++ t)) t (part l w (e ++ t) ∷ [])
   first : {s t u : List ℕ} {ps qs : List Part} → Ogip item s t ps → Ogip more t u qs → Ogip product s u (ps ++ qs)
   done : {s : List ℕ} → Ogip more s s []
   times : {j s t u : List ℕ} {ps qs : List Part} → Times j → Ogip item s t ps → Ogip more t u qs → Ogip more (j ++ s) u (ps ++ qs)

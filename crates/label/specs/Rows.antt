@@ -6,7 +6,7 @@ use mathlib.Core.Option.{Option, none, some}
 use lib.Dec.{eqb}
 use Rattle.label.specs.declared.Rules.{Rules}
 use Rattle.label.specs.Bytes.{bytes}
-use Rattle.label.specs.Notations.{fits, ogip, cds, vounits}
+use Rattle.label.specs.Notations.{fits, ogip, cds, vounits, starlink}
 
 -- a notation's number and what a table has for it
 pub record Row (A : Type 0) : Type 0 where
@@ -103,12 +103,34 @@ vounits-rules = record {
   plain = true;
 }
 
+abbrev pub starlink-rules : Rules
+starlink-rules = record {
+  percent = false;
+  quotes = false;
+  direct = false;
+  brackets = false;
+  stars = true;
+  caret = false;
+  space = false;
+  spaces = false;
+  star = true;
+  point = false;
+  each = false;
+  within = false;
+  lead = false;
+  factor = false;
+  wrapped = false;
+  signed = false;
+  plain = false;
+}
+
 unfoldable pub ruled : List (Row Rules)
 ruled =
     record { number = fits; value = fits-rules }
     ∷ record { number = ogip; value = ogip-rules }
     ∷ record { number = cds; value = cds-rules }
     ∷ record { number = vounits; value = vounits-rules }
+    ∷ record { number = starlink; value = starlink-rules }
     ∷ []
 
 -- the rules of notation n
@@ -126,7 +148,8 @@ pub record Style : Type 0 where
   pub raise : List ℕ
   pub wrapped : Bool
   pub fractions : Bool
-  -- what comes before k, whether a k above 0 has a plus, and what comes after k
+  -- whether a factor has a form; what comes before k, whether a k above 0 has a plus, and what comes after k
+  pub factors : Bool
   pub ten : List ℕ
   pub signed : Bool
   pub gap : List ℕ
@@ -141,6 +164,7 @@ fits-style = record {
   raise = bytes "";
   wrapped = false;
   fractions = true;
+  factors = true;
   ten = bytes "10**";
   signed = false;
   gap = bytes " ";
@@ -153,6 +177,7 @@ ogip-style = record {
   raise = bytes "**";
   wrapped = true;
   fractions = true;
+  factors = true;
   ten = bytes "10**";
   signed = false;
   gap = bytes " ";
@@ -165,6 +190,7 @@ cds-style = record {
   raise = bytes "";
   wrapped = false;
   fractions = false;
+  factors = true;
   ten = bytes "10";
   signed = true;
   gap = bytes "";
@@ -177,7 +203,22 @@ vounits-style = record {
   raise = bytes "**";
   wrapped = false;
   fractions = true;
+  factors = true;
   ten = bytes "10**";
+  signed = false;
+  gap = bytes "";
+}
+
+-- document 02, W3: "Writing joins by a star, with exponents as in OGIP; a label with k not 0 can't be written in notation 5."
+abbrev pub starlink-style : Style
+starlink-style = record {
+  quotes = false;
+  joint = bytes "*";
+  raise = bytes "**";
+  wrapped = true;
+  fractions = true;
+  factors = false;
+  ten = bytes "";
   signed = false;
   gap = bytes "";
 }
@@ -188,6 +229,7 @@ styled =
     ∷ record { number = ogip; value = ogip-style }
     ∷ record { number = cds; value = cds-style }
     ∷ record { number = vounits; value = vounits-style }
+    ∷ record { number = starlink; value = starlink-style }
     ∷ []
 
 -- the style of notation n
@@ -196,11 +238,12 @@ style-of n = value-among n styled
 
 -- NAMES
 
--- "notation (fits, ogip, cds, vou)"
+-- "notation (fits, ogip, cds, vou)"; W3: "line programs accept the name starlink"
 unfoldable pub named : List (Row (List ℕ))
 named =
     record { number = fits; value = bytes "fits" }
     ∷ record { number = ogip; value = bytes "ogip" }
     ∷ record { number = cds; value = bytes "cds" }
     ∷ record { number = vounits; value = bytes "vou" }
+    ∷ record { number = starlink; value = bytes "starlink" }
     ∷ []

@@ -63,7 +63,7 @@ split-of v = record { k = v .k; spellings = map spelled (v .units) }
 
 -- REFUSALS 1 TO 7
 
--- "the notation number isn't 1 to 4"
+-- "the notation number isn't 1 to 4"; document 02, W3: "1 is given for a number outside 1 to 5"
 abbrev pub Condition1 : ℕ → List ℕ → Type 0
 Condition1 n s = notation n ≡ false
 

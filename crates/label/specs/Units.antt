@@ -10,7 +10,7 @@ use Rattle.label.specs.declared.Tens.{Tens}
 use Rattle.label.specs.Bytes.{bytes}
 use Rattle.label.specs.Choice.{pick}
 use Rattle.label.specs.Prefixes.{neg}
-use Rattle.label.specs.Notations.{Notations, everywhere, not-ogip, not-cds, fits-vounits, ogip-vounits, only-ogip, only-cds, cds-vounits, nowhere}
+use Rattle.label.specs.Notations.{Notations, everywhere, not-ogip, not-cds, fits-vounits, ogip-vounits, ogip-starlink, only-starlink, only-cds, cds-vounits, nowhere}
 
 -- BASES
 
@@ -167,7 +167,7 @@ units =
     ∷ bare ("D" known not-ogip ∷ []) (base 21)
     ∷ bare ("Sun" known not-ogip ∷ []) (base 22)
     ∷ prefixed everywhere ("bit" known not-ogip ∷ []) (base bit)
-    ∷ prefixed everywhere ("ohm" known only-ogip ∷ "Ohm" known not-ogip ∷ [])
+    ∷ prefixed everywhere ("ohm" known ogip-starlink ∷ "Ohm" known not-ogip ∷ [])
     (ten-to (pos 3) (gram ↑ pos 1 ∷ metre ↑ pos 2 ∷ second ↑ neg 3 ∷ ampere ↑ neg 2 ∷ []))
     -- "Not CDS: erg G lyr count photon pixel chan bin voxel." (count is with ct, pixel with pix)
     ∷ discouraged ("erg" known not-cds ∷ []) (ten-to (neg 4) (gram ↑ pos 1 ∷ metre ↑ pos 2 ∷ second ↑ neg 2 ∷ []))
@@ -182,7 +182,8 @@ units =
     ∷ bare ("R" known fits-vounits ∷ []) (base 29)
     ∷ bare ("adu" known fits-vounits ∷ []) (base 30)
     ∷ bare ("beam" known fits-vounits ∷ []) (base 31)
-    ∷ discouraged ("angstrom" known ogip-vounits ∷ "Angstrom" known fits-vounits ∷ []) (ten-to (neg 10) (metre ↑ pos 1 ∷ []))
+    -- Document 02, W3: "Ang is a third name of that unit"
+    ∷ discouraged ("angstrom" known ogip-vounits ∷ "Angstrom" known fits-vounits ∷ "Ang" known only-starlink ∷ []) (ten-to (neg 10) (metre ↑ pos 1 ∷ []))
     -- "CDS: %."
     ∷ bare ("%" known only-cds ∷ []) (ten-to (neg 2) [])
     ∷ []

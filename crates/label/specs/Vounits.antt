@@ -2,22 +2,18 @@
 use Prim.Native.Nat.{ℕ}
 use mathlib.Core.List.{List, [], _∷_, _++_}
 use Rattle.label.specs.Bytes.{open-bracket, close-bracket, point, star as star-byte, slash, digit-zero, digit-one}
-use Rattle.label.specs.Lexical.{Numeral, Written, unwritten, Factor, no-factor, ten-to, zeros, Part, part, turned-all, Kind, item, more, product, quotient, Letters, Quoted, Power, Wrapped, Plain}
+use Rattle.label.specs.Lexical.{Numeral, Written, Factor, no-factor, ten-to, zeros, Part, part, turned-all, Kind, item, more, product, quotient, Letters, Quoted, TwoStars, Wrapped, Plain}
 
 -- "VOUnits also has letters in single quotes"
 pub data Spelling : List ℕ → Type 0 where
   letters : {l : List ℕ} → Letters l → Spelling l
   quoted : {l : List ℕ} → Quoted l → Spelling l
 
--- "Exponent: ** and a power."
-pub data Exponent : List ℕ → Written → Type 0 where
-  none : Exponent [] unwritten
-  stars : {e : List ℕ} {w : Written} → Power e w → Exponent (star-byte ∷ star-byte ∷ e) w
-
 -- Vounits x s t ps: the text s begins with an x, which ends where t begins, and ps are its units.
 pub data Vounits : Kind → List ℕ → List ℕ → List Part → Type 0 where
+  -- "Exponent: ** and a power."
+  unit : {l e t : List ℕ} {w : Written} → Spelling l → TwoStars e w → Vounits item (l ++ (e ++ t)) t (part l w (e ++ t) ∷ [])
   -- "Product by points."
-  unit : {l e t : List ℕ} {w : Written} → Spelling l → Exponent e w → Vounits item (l ++ (e ++ t)) t (part l w (e ++ t) ∷ [])
   first : {s t u : List ℕ} {ps qs : List Part} → Vounits item s t ps → Vounits more t u qs → Vounits product s u (ps ++ qs)
   done : {s : List ℕ} → Vounits more s s []
   times : {s t u : List ℕ} {ps qs : List Part} → Vounits item s t ps → Vounits more t u qs → Vounits more (point ∷ s) u (ps ++ qs)

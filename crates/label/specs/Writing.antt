@@ -5,13 +5,13 @@ use mathlib.Core.Bool.{Bool, true, false, _&&_}
 use mathlib.Core.List.{List, [], _∷_, _++_, map}
 use mathlib.Core.Option.{Option, none, some}
 use lib.Dec.{leb, eqb}
-use lib.IntN.{natAbs}
+use lib.IntN.{pos, natAbs}
 use lib.ListN.{length, drop}
 use Rattle.label.specs.declared.Exponent.{Exponent}
 use Rattle.label.specs.declared.Tens.{Tens}
 use Rattle.label.specs.Bytes.{bytes, quote, open-bracket, close-bracket, plus, minus, slash, digit-zero, same}
 use Rattle.label.specs.Choice.{pick}
-use Rattle.label.specs.Notations.{member, fractionless, notation}
+use Rattle.label.specs.Notations.{member, fractionless, factorless, notation}
 use Rattle.label.specs.Rows.{Style, style-of}
 use Rattle.label.specs.Letters.{prefix-letters}
 use Rattle.label.specs.Units.{Name, unit-at}
@@ -45,8 +45,12 @@ in-brackets s = open-bracket ∷ s ++ close-bracket ∷ []
 -- THE FACTOR
 
 -- "k not 0: `10**k` and a space (FITS, OGIP), `10**k` (VOUnits), `10+3` or `10-3` style (CDS)."
-unfoldable pub factor-text : Style → Tens → List ℕ
-factor-text y k = pick (eqb (natAbs (k .0)) 0) [] ((y .ten ++ (sign-text (y .signed) (negative (k .0)) ++ figures (natAbs (k .0)))) ++ y .gap)
+abbrev pub tens-text : Style → Tens → List ℕ
+tens-text y k = (y .ten ++ (sign-text (y .signed) (negative (k .0)) ++ figures (natAbs (k .0)))) ++ y .gap
+
+-- document 02, W3: "a label with k not 0 can't be written in notation 5"
+unfoldable pub factor-text : Style → Tens → Option (List ℕ)
+factor-text y k = pick (eqb (natAbs (k .0)) 0) (some []) (pick (y .factors) (some (tens-text y k)) none)
 
 -- EXPONENTS
 
@@ -130,7 +134,7 @@ both-texts (some s) (some t) = some (s ++ t)
 unfoldable pub unit-text : Style → ℕ → Writable → Option (List ℕ)
 unit-text y m w = both-texts (symbol-text y m (w .own) (w .symbol)) (exponent-text y (w .exponent))
 
--- what follows the first unit. "No slash or group."; "Joined by a space (FITS, OGIP) or a point."
+-- what follows the first unit. "No slash or group."; "Joined by a space (FITS, OGIP) or a point."; W3: "Writing joins by a star"
 unfoldable pub more-text : Style → ℕ → List Writable → Option (List ℕ)
 more-text y m [] = some []
 more-text y m (w ∷ ws) = both-texts (some (y .joint)) (both-texts (unit-text y m w) (more-text y m ws))
@@ -138,7 +142,7 @@ more-text y m (w ∷ ws) = both-texts (some (y .joint)) (both-texts (unit-text y
 -- a label without terms has no factor
 unfoldable pub label-text : Style → ℕ → Tens → List Writable → Option (List ℕ)
 label-text y m k [] = some []
-label-text y m k (w ∷ ws) = both-texts (some (factor-text y k)) (both-texts (unit-text y m w) (more-text y m ws))
+label-text y m k (w ∷ ws) = both-texts (factor-text y k) (both-texts (unit-text y m w) (more-text y m ws))
 
 unfoldable pub written-by : Option Style → ℕ → Tens → List Writable → Option (List ℕ)
 written-by none m k ws = none
@@ -172,7 +176,8 @@ pub data FirstName (m : ℕ) : List Name → List ℕ → Type 0 where
   this : {x : Name} {xs : List Name} → member m (x .known-in) ≡ true → FirstName m (x ∷ xs) (x .letters)
   later : {x : Name} {xs : List Name} {l : List ℕ} → member m (x .known-in) ≡ false → FirstName m xs l → FirstName m (x ∷ xs) l
 
--- "A known unit keeps its spelling if the target knows it, else takes its other name there." No unit has two other names in a notation.
+-- "A known unit keeps its spelling if the target knows it, else takes its other name there." Only Ang has two others in a notation, and W3
+-- says which: "becomes Angstrom in FITS and angstrom in OGIP and VOUnits".
 pub data TakesName (m u : ℕ) (own : List ℕ) : List ℕ → Type 0 where
   keeps : NameIn m u own → TakesName m u own own
   takes : {l : List ℕ} → (NameIn m u own → ⊥) → FirstName m (unit-at u .names) l → TakesName m u own l
@@ -190,6 +195,11 @@ pub data Form (m : ℕ) (own : List ℕ) : Symbol → List ℕ → Type 0 where
 pub data ExponentForm (m : ℕ) (e : Exponent) : Type 0 where
   whole : lowest-terms e .denominator ≡ 1 → ExponentForm m e
   fraction : member m fractionless ≡ false → ExponentForm m e
+
+-- W3: "a label with k not 0 can't be written in notation 5"
+pub data FactorForm (m : ℕ) (k : Tens) : Type 0 where
+  omitted : k .0 ≡ pos 0 → FactorForm m k
+  factored : member m factorless ≡ false → FactorForm m k
 
 -- a unit with its exponent has a form in notation m
 pub record HasForm (m : ℕ) (w : Writable) : Type 0 where
@@ -255,6 +265,8 @@ pub data Refuses (n : ℕ) (s : List ℕ) (m : ℕ) : ℕ → Type 0 where
   target : reading n s .number ≡ 0 → Condition1 m [] → Refuses n s m 1
   -- "a term or exponent has no form in the target"
   formless : reading n s .number ≡ 0 → notation m ≡ true → Formless m (map (writable s) (reading n s .terms)) → Refuses n s m 12
+  -- W3: "12 also where the target is 5 and k isn't 0"
+  factor-formless : reading n s .number ≡ 0 → notation m ≡ true → (FactorForm m (reading n s .k) → ⊥) → Refuses n s m 12
   -- "the result is over 255 bytes"
   long : {t : List ℕ} → reading n s .number ≡ 0 → notation m ≡ true → written-reading m s (reading n s) ≡ some t → most-bytes < length t → Refuses n s m 13
 

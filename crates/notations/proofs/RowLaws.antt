@@ -42,10 +42,20 @@ module _ {A : Type 0} where
   pub in-set : (f : A → Bool) (xs : List (Row A)) {n s : ℕ} {a : A} {b : Bool} → value-among n xs ≡ some a → InSet n s b → T (holds-in f s xs) → b ≡ f a
   in-set f xs {n} {s} {a} e w t = w .is ∙ alike-is (has-bit n s) (f a) (row-passes (λ m x. alike (has-bit m s) (f x)) xs n a t e)
 
+  -- the bytes of each row are those that its number gives
+  by-number : (g : A → List ℕ) (f : ℕ → List ℕ) (xs : List (Row A)) {n : ℕ} {a : A} → value-among n xs ≡ some a
+      → T (every (λ (x : Row A). same (g (x .value)) (f (x .number))) xs) → f n ≡ g a
+  by-number g f xs {n} {a} e t = sym (same-is (g a) (f n) (T→true _ (row-passes (λ m x. same (g x) (f m)) xs n a t e)))
+
   -- s is the set of the notations that have the bytes u, and the others have v
   pub by-set : (g : A → List ℕ) (u v : List ℕ) (xs : List (Row A)) {n s : ℕ} {a : A} {b : Bool} → value-among n xs ≡ some a → InSet n s b
       → T (every (λ (x : Row A). same (g (x .value)) (pick (has-bit (x .number) s) u v)) xs) → pick b u v ≡ g a
-  by-set g u v xs {n} {s} {a} e w t = rw (w .is) (sym (same-is (g a) _ (T→true _ (row-passes (λ m x. same (g x) (pick (has-bit m s) u v)) xs n a t e))))
+  by-set g u v xs {s = s} e w t = rw (w .is) (by-number g (λ m. pick (has-bit m s) u v) xs e t)
+
+  -- the same of a set r, in which s is the set of those that have the bytes u
+  pub by-sets : (g : A → List ℕ) (u v w : List ℕ) (xs : List (Row A)) {n r s : ℕ} {a : A} {b c : Bool} → value-among n xs ≡ some a → InSet n r b → InSet n s c
+      → T (every (λ (x : Row A). same (g (x .value)) (pick (has-bit (x .number) r) (pick (has-bit (x .number) s) u v) w)) xs) → pick b (pick c u v) w ≡ g a
+  by-sets g u v w xs {r = r} {s = s} e p q t = rw (p .is, q .is) (by-number g (λ m. pick (has-bit m r) (pick (has-bit m s) u v) w) xs e t)
 
 -- JOINTS
 

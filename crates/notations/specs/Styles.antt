@@ -15,7 +15,8 @@ style-in y = record {
   raise = pick (y .stars) (bytes "**") (bytes "");
   wrapped = y .wrapped;
   fractions = y .fractions;
-  ten = pick (y .«ten_stars») (bytes "10**") (bytes "10");
+  factors = y .factors;
+  ten = pick (y .factors) (pick (y .«ten_stars») (bytes "10**") (bytes "10")) (bytes "");
   signed = y .signed;
   gap = pick (y .gap) (bytes " ") (bytes "");
 }

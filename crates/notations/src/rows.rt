@@ -9,12 +9,12 @@ ghost use mathlib.Core.Bool.{true};
 ghost use mathlib.Core.Option.{some};
 ghost use Rattle.label.specs.Lines.{notation-named};
 ghost use Rattle.label.specs.Notations.{notation};
-ghost use Rattle.label.specs.Rows.{fits-rules, ogip-rules, cds-rules, vounits-rules, rules-of};
+ghost use Rattle.label.specs.Rows.{fits-rules, ogip-rules, cds-rules, vounits-rules, starlink-rules, rules-of};
 ghost use Rattle.notations.specs.Columns.{InSet, joints, JointOf, notation-sizes, notation-keys};
 ghost use Rattle.notations.specs.Styles.{StyleOf};
 
 // How many notations there are: their numbers are 1 to this one.
-const NOTATIONS: u32 = 4;
+const NOTATIONS: u32 = 5;
 
 const ROWS: usize = NOTATIONS as usize;
 
@@ -27,13 +27,21 @@ const CDS: u8 = 4;
 
 const VOUNITS: u8 = 8;
 
-// The notations' names, fits, ogip, cds and vou: how many letters they have, and their keys.
-const SIZES: [usize; ROWS] = [4, 4, 3, 3];
+const STARLINK: u8 = 16;
 
-const KEYS: [u64; ROWS] = [0x66697473, 0x6f676970, 0x636473, 0x766f75];
+// The notations' names, fits, ogip, cds, vou and starlink: how many letters they have, and their keys.
+const SIZES: [usize; ROWS] = [4, 4, 3, 3, 8];
+
+const KEYS: [u64; ROWS] = [
+    0x66697473,
+    0x6f676970,
+    0x636473,
+    0x766f75,
+    0x737461726c696e6b,
+];
 
 // What joins the units that the notations write.
-const JOINTS: [u8; ROWS] = [b' ', b' ', b'.', b'.'];
+const JOINTS: [u8; ROWS] = [b' ', b' ', b'.', b'.', b'*'];
 
 // How a notation writes.
 pub struct Style {
@@ -47,7 +55,8 @@ pub struct Style {
     pub stars: bool,
     pub wrapped: bool,
     pub fractions: bool,
-    // Whether two stars come before k, whether a plus comes before a k above 0, and whether a space follows k.
+    // Whether a factor has a form; whether two stars come before k, whether a plus comes before a k above 0, and whether a space follows k.
+    pub factors: bool,
     pub ten_stars: bool,
     pub signed: bool,
     pub gap: bool,
@@ -166,6 +175,30 @@ fn vounits_rules() -> Rules
     }
 }
 
+fn starlink_rules() -> Rules
+    ensures { λ r. ⌜ r ≡ starlink-rules ⌝ }
+{
+    Rules {
+        percent: false,
+        quotes: false,
+        direct: false,
+        brackets: false,
+        stars: true,
+        caret: false,
+        space: false,
+        spaces: false,
+        star: true,
+        point: false,
+        each: false,
+        within: false,
+        lead: false,
+        factor: false,
+        wrapped: false,
+        signed: false,
+        plain: false,
+    }
+}
+
 // The rules of notation `n`. A row for each is quicker than sets: a reading asks for them once, and they are constants.
 pub fn rules(n: u8) -> Rules
     requires { ⌜ notation n ≡ true ⌝ }
@@ -180,7 +213,10 @@ pub fn rules(n: u8) -> Rules
     if n == 3 {
         return cds_rules();
     }
-    vounits_rules()
+    if n == 4 {
+        return vounits_rules();
+    }
+    starlink_rules()
 }
 
 fn joints() -> [u8; ROWS]
@@ -207,9 +243,10 @@ pub fn style_of(n: u8) -> Style
         notation: n,
         quotes: has(n, VOUNITS),
         joint: joint(n),
-        stars: has(n, OGIP | VOUNITS),
-        wrapped: has(n, OGIP),
-        fractions: has(n, FITS | OGIP | VOUNITS),
+        stars: has(n, OGIP | VOUNITS | STARLINK),
+        wrapped: has(n, OGIP | STARLINK),
+        fractions: has(n, FITS | OGIP | VOUNITS | STARLINK),
+        factors: has(n, FITS | OGIP | CDS | VOUNITS),
         ten_stars: has(n, FITS | OGIP | VOUNITS),
         signed: has(n, CDS),
         gap: has(n, FITS | OGIP),

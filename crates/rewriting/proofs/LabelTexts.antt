@@ -86,7 +86,7 @@ terms-snoc y m [] v = rw (both-empty (unit-text y m v)) (sym (both-start _ ∙ b
 terms-snoc y m (w ∷ ws) v =
     rw (more-snoc y m ws v) (sym (both-assoc (unit-text y m w) (more-text y m ws) (both-texts (some (y .joint)) (unit-text y m v))))
 
-label-terms : (y : Style) (m : ℕ) (k : Tens) (ws : List Writable) → 1 ≤ length ws → label-text y m k ws ≡ both-texts (some (factor-text y k)) (terms-text y m ws)
+label-terms : (y : Style) (m : ℕ) (k : Tens) (ws : List Writable) → 1 ≤ length ws → label-text y m k ws ≡ both-texts (factor-text y k) (terms-text y m ws)
 unfolding label-text terms-text
 label-terms y m k [] h = absurd (omega arith)
 label-terms y m k (w ∷ ws) h = refl
@@ -132,12 +132,12 @@ module _ {y : Style} {m : ℕ} {s : List ℕ} {t : Lent} {x b c : List ℕ} {at 
     ) (writes-then (l .written) (writes-then v w));
   }
 
-  pub all-terms : (k : Tens) {a : List ℕ} → (count t ≡ 0 → ⊥) → count t ≤ i → WritesText a 0 (some (factor-text y k)) b at
+  pub all-terms : (k : Tens) {a : List ℕ} → (count t ≡ 0 → ⊥) → count t ≤ i → WritesText a 0 (factor-text y k) b at
       → HoldsText c r (label-text y m k (map (writable s) (terms-in s t x (count t))))
   all-terms k h g w =
       let e : i ≡ count t = omega (arith, l .upto) in
       rw (
         ← e,
         label-terms y m k (map (writable s) (terms-in s t x i)) (rw (terms-length s t x i) (omega arith)),
-        ← both-start (both-texts (some (factor-text y k)) (text-of y m s t x i)),
+        ← both-start (both-texts (factor-text y k) (text-of y m s t x i)),
       ) (writes-then w (l .written) .adds (some []) (HoldsText.short [] refl refl (omega arith) refl))

@@ -1,19 +1,22 @@
 -- Exponents and factors as they are written.
 use Prim.Native.Nat.{ℕ, _*_, _/_}
-use mathlib.Core.Path.{_≡_, refl, sym, ap, _∙_}
+use mathlib.Core.Path.{_≡_, sym, _∙_}
 use mathlib.Core.Bool.{Bool, true, false}
-use mathlib.Core.List.{List, [], _++_}
+use mathlib.Core.List.{[], _++_}
 use mathlib.Core.Option.{none, some}
 use lib.Dec.{eqb}
 use lib.IntN.{ℤ, pos, natAbs}
 use borrow.Author.Tests.{eq-eqb, ne-eqb}
 use Rattle.label.proofs.Figures.{size-signed}
 use Rattle.label.specs.declared.Tens.{Tens}
+use Rattle.label.specs.Bytes.{bytes}
 use Rattle.label.specs.Choice.{pick}
 use Rattle.label.specs.Limits.{negative, denominator-of, lowest-terms}
 use Rattle.label.specs.Reading.{exponent}
 use Rattle.label.specs.Writing.{sign-text, figures, factor-text, whole-text, fraction-text, power-text, exponent-text}
 use Rattle.label.specs.Rows.{Style}
+use Rattle.notations.specs.declared.rows.Style as rows
+use Rattle.notations.specs.Styles.{style-in}
 
 module _ (y : Style) (b : Bool) (p q : ℕ) where
   pub power-fraction : (q ≡ 1 → ⊥) → y .fractions ≡ true → power-text y b p q ≡ some (fraction-text y b p q)
@@ -38,11 +41,16 @@ pub exponent-power : (y : Style) (z : ℤ) {n d : ℕ} {b : Bool} → n ≡ natA
 unfolding exponent-text lowest-terms denominator-of
 exponent-power y z e f g = rw (g, f, e, size-signed (negative z) _)
 
-module _ (y : Style) (k : Tens) {n : ℕ} (e : n ≡ natAbs (k .0)) where
-  pub factor-none : n ≡ 0 → factor-text y k ≡ []
+module _ (y : rows.Style) (k : Tens) {n : ℕ} (e : n ≡ natAbs (k .0)) where
+  pub factor-omitted : n ≡ 0 → factor-text (style-in y) k ≡ some []
   unfolding factor-text
-  factor-none z = rw (eq-eqb (natAbs (k .0)) 0 (sym e ∙ z))
+  factor-omitted z = rw (eq-eqb (natAbs (k .0)) 0 (sym e ∙ z))
 
-  pub factor-some : (n ≡ 0 → ⊥) → {b : Bool} → b ≡ negative (k .0) → factor-text y k ≡ (y .ten ++ (sign-text (y .signed) b ++ figures n)) ++ y .gap
-  unfolding factor-text
-  factor-some z f = rw (ne-eqb (natAbs (k .0)) 0 (λ q. z (e ∙ q)), f, e)
+  pub factor-none : (n ≡ 0 → ⊥) → y .factors ≡ false → factor-text (style-in y) k ≡ none
+  unfolding factor-text style-in
+  factor-none z f = rw (ne-eqb (natAbs (k .0)) 0 (λ q. z (e ∙ q)), f)
+
+  pub factor-some : (n ≡ 0 → ⊥) → y .factors ≡ true → {b : Bool} → b ≡ negative (k .0)
+      → factor-text (style-in y) k ≡ some ((pick (y .«ten_stars») (bytes "10**") (bytes "10") ++ (sign-text (y .signed) b ++ figures n)) ++ pick (y .gap) (bytes " ") (bytes ""))
+  unfolding factor-text style-in
+  factor-some z t f = rw (ne-eqb (natAbs (k .0)) 0 (λ q. z (e ∙ q)), t, f, e)

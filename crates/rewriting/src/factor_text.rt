@@ -4,6 +4,7 @@ use crate::figures::is_negative;
 use crate::figures::magnitude;
 use crate::figures::push_figures;
 use crate::figures::push_sign;
+use crate::text::FORMLESS;
 use crate::text::ROOM;
 use crate::text::push;
 use crate::text::push_stars;
@@ -39,14 +40,17 @@ fn push_ten(text: &mut [u8; ROOM], at: usize, stars: bool) -> usize
     push_stars(text, third, stars)
 }
 
-// Writes ten to the k, or nothing where k is 0.
+// Writes ten to the k, or nothing where k is 0. Another k may have no form.
 pub fn push_factor(text: &mut [u8; ROOM], at: usize, style: Style, k: Tens) -> usize
     requires { ⌜ length (now text) ≡ text-room ⌝ }
-    ensures { λ r. ⌜ WritesText (now (text .entry)) at (some (factor-text (style-in style) k)) (now (text .exit)) r ⌝ }
+    ensures { λ r. ⌜ WritesText (now (text .entry)) at (factor-text (style-in style) k) (now (text .exit)) r ⌝ }
 {
     let size = magnitude(k.0);
     if size == 0 {
         return at;
+    }
+    if !style.factors {
+        return FORMLESS;
     }
     let sign = push_ten(text, at, style.ten_stars);
     let digits = push_sign(text, sign, style.signed, is_negative(k.0));

@@ -30,7 +30,7 @@ pub struct Own {
     pub number: u64,
 }
 
-// The place of a unit's first name in the table of names, also for the row past the last unit. Each unit before it with two names counts one more.
+// The place of a unit's first name in the table of names, also for the row past the last unit. Each further name of a unit before it counts one more.
 fn first_name(unit: u8) -> u8
     requires { ⌜ unit ≤ unit-count ⌝ }
     ensures { λ r. ⌜ r ≡ getD first-places unit 0 ⌝ }
@@ -42,7 +42,7 @@ fn first_name(unit: u8) -> u8
         40..=47 => unit + 3, // after count, ct
         48..=51 => unit + 4, // after ohm, Ohm
         52..=59 => unit + 5, // after photon, ph
-        _ => unit + 6, // after angstrom, Angstrom
+        _ => unit + 7, // after angstrom, Angstrom, Ang
     }
 }
 

@@ -16,7 +16,7 @@ use Rattle.symbols.specs.Slots.{slot, prime-slot, four-each}
 
 -- names, prefixes and units. That the tables have as many is proved (`names-count`, `prefixes-count`, `units-count`).
 abbrev pub name-count : ℕ
-name-count = 67
+name-count = 68
 
 abbrev pub prefix-count : ℕ
 prefix-count = 20

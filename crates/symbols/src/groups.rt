@@ -17,7 +17,7 @@ pub fn first_in_group(group: u64) -> u8
         29 => 42, // ct
         32 => 9, // Hz
         33 => 50, // ohm
-        37 => 66, // %
+        37 => 67, // %
         40 => 30, // arcsec
         46 => 49, // bit
         48 => 23, // min
@@ -54,6 +54,7 @@ pub fn first_in_group(group: u64) -> u8
         109 => 0, // m
         111 => 56, // ph
         112 => 5, // mol
+        113 => 66, // Ang
         114 => 31, // AU
         115 => 2, // s
         116 => 35, // barn
@@ -66,6 +67,6 @@ pub fn first_in_group(group: u64) -> u8
         133 => 28, // deg
         142 => 37, // byte
         144 => 11, // Pa
-        _ => 67,
+        _ => 68,
     }
 }

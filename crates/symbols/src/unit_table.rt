@@ -4,7 +4,7 @@ ghost use mathlib.Core.Path.{_≡_};
 ghost use Rattle.symbols.specs.Columns.{name-keys, name-codes, unit-prefixed, unit-recommended};
 
 // How many names there are.
-pub const NAMES: usize = 67;
+pub const NAMES: usize = 68;
 
 // How many units there are.
 pub const UNITS: usize = 61;
@@ -77,53 +77,54 @@ const NAME_KEYS: [u64; NAMES] = [
     1650811245, // beam
     7020662614689738605, // angstrom
     4714819605476044653, // Angstrom
+    4288103, // Ang
     37, // %
 ];
 
 // For each name how many letters it has, the notations that know it as a set of bits, and the row of its unit: a byte each.
 const NAME_CODES: [u32; NAMES] = [
-    0x01_0f_00, // m
-    0x01_0f_01, // g
-    0x01_0f_02, // s
-    0x01_0f_03, // A
-    0x01_0f_04, // K
-    0x03_0f_05, // mol
-    0x02_0f_06, // cd
-    0x03_0f_07, // rad
-    0x02_0f_08, // sr
-    0x02_0f_09, // Hz
-    0x01_0f_0a, // N
-    0x02_0f_0b, // Pa
-    0x01_0f_0c, // J
-    0x01_0f_0d, // W
-    0x01_0f_0e, // C
-    0x01_0f_0f, // V
-    0x01_0f_10, // S
-    0x01_0f_11, // F
-    0x02_0f_12, // Wb
-    0x01_0f_13, // T
-    0x01_0f_14, // H
-    0x02_0f_15, // lm
-    0x02_0f_16, // lx
-    0x03_0f_17, // min
-    0x01_0f_18, // h
-    0x01_0f_19, // d
-    0x02_0f_1a, // yr
+    0x01_1f_00, // m
+    0x01_1f_01, // g
+    0x01_1f_02, // s
+    0x01_1f_03, // A
+    0x01_1f_04, // K
+    0x03_1f_05, // mol
+    0x02_1f_06, // cd
+    0x03_1f_07, // rad
+    0x02_1f_08, // sr
+    0x02_1f_09, // Hz
+    0x01_1f_0a, // N
+    0x02_1f_0b, // Pa
+    0x01_1f_0c, // J
+    0x01_1f_0d, // W
+    0x01_1f_0e, // C
+    0x01_1f_0f, // V
+    0x01_1f_10, // S
+    0x01_1f_11, // F
+    0x02_1f_12, // Wb
+    0x01_1f_13, // T
+    0x01_1f_14, // H
+    0x02_1f_15, // lm
+    0x02_1f_16, // lx
+    0x03_1f_17, // min
+    0x01_1f_18, // h
+    0x01_1f_19, // d
+    0x02_1f_1a, // yr
     0x01_0d_1a, // a
-    0x03_0f_1b, // deg
-    0x06_0f_1c, // arcmin
-    0x06_0f_1d, // arcsec
-    0x02_0f_1e, // AU
-    0x02_0f_1f, // pc
-    0x02_0f_20, // eV
-    0x02_0f_21, // Jy
-    0x04_0f_22, // barn
-    0x03_0f_23, // mag
-    0x04_0f_24, // byte
+    0x03_1f_1b, // deg
+    0x06_1f_1c, // arcmin
+    0x06_1f_1d, // arcsec
+    0x02_1f_1e, // AU
+    0x02_1f_1f, // pc
+    0x02_1f_20, // eV
+    0x02_1f_21, // Jy
+    0x04_1f_22, // barn
+    0x03_1f_23, // mag
+    0x04_1f_24, // byte
     0x03_0d_25, // mas
-    0x05_0b_26, // pixel
+    0x05_1b_26, // pixel
     0x03_0d_26, // pix
-    0x05_0b_27, // count
+    0x05_1b_27, // count
     0x02_0d_27, // ct
     0x02_0d_28, // Ry
     0x07_0d_29, // solMass
@@ -132,64 +133,65 @@ const NAME_CODES: [u32; NAMES] = [
     0x01_0d_2c, // D
     0x03_0d_2d, // Sun
     0x03_0d_2e, // bit
-    0x03_02_2f, // ohm
+    0x03_12_2f, // ohm
     0x03_0d_2f, // Ohm
-    0x03_0b_30, // erg
-    0x01_0b_31, // G
-    0x03_0b_32, // lyr
-    0x06_0b_33, // photon
+    0x03_1b_30, // erg
+    0x01_1b_31, // G
+    0x03_1b_32, // lyr
+    0x06_1b_33, // photon
     0x02_09_33, // ph
-    0x04_0b_34, // chan
-    0x03_0b_35, // bin
-    0x05_0b_36, // voxel
+    0x04_1b_34, // chan
+    0x03_1b_35, // bin
+    0x05_1b_36, // voxel
     0x01_09_37, // u
     0x01_09_38, // R
     0x03_09_39, // adu
     0x04_09_3a, // beam
     0x08_0a_3b, // angstrom
     0x08_09_3b, // Angstrom
+    0x03_10_3b, // Ang
     0x01_04_3c, // %
 ];
 
 // The notations in which a prefix is lawful on each unit, as a set of bits.
 const UNIT_PREFIXED: [u8; UNITS] = [
-    15, // m
-    15, // g
-    15, // s
-    15, // A
-    15, // K
-    15, // mol
-    15, // cd
-    15, // rad
-    15, // sr
-    15, // Hz
-    15, // N
-    15, // Pa
-    15, // J
-    15, // W
-    15, // C
-    15, // V
-    15, // S
-    15, // F
-    15, // Wb
-    15, // T
-    15, // H
-    15, // lm
-    15, // lx
+    31, // m
+    31, // g
+    31, // s
+    31, // A
+    31, // K
+    31, // mol
+    31, // cd
+    31, // rad
+    31, // sr
+    31, // Hz
+    31, // N
+    31, // Pa
+    31, // J
+    31, // W
+    31, // C
+    31, // V
+    31, // S
+    31, // F
+    31, // Wb
+    31, // T
+    31, // H
+    31, // lm
+    31, // lx
     0, // min
     0, // h
     0, // d
-    15, // yr
+    31, // yr
     0, // deg
     0, // arcmin
     12, // arcsec
     0, // AU
-    15, // pc
-    15, // eV
-    15, // Jy
+    31, // pc
+    31, // eV
+    31, // Jy
     0, // barn
     0, // mag
-    15, // byte
+    31, // byte
     0, // mas
     0, // pixel
     0, // count
@@ -199,8 +201,8 @@ const UNIT_PREFIXED: [u8; UNITS] = [
     0, // solRad
     0, // D
     0, // Sun
-    15, // bit
-    15, // ohm
+    31, // bit
+    31, // ohm
     0, // erg
     0, // G
     0, // lyr

@@ -33,10 +33,18 @@ vounits-requires c κs = search needs
 
 returns-4 : tie.Need-returns-4
 unfolding rules-of value-among ruled
-returns-4 c =
-    let w = in-range _ (c .before .before .before .before .pre) in
-    let e : c .before .before .before .before .args .n ≡ last = omega (arith, w .least, w .most, c .before .before .before .if1 .left, c .before .before .if2 .left, c .before .if3 .left) in
-    rw (e, c .vounits-rules .ensures)
+returns-4 c = rw (c .before .if4 .taken, c .vounits-rules .ensures)
+
+starlink-requires : tie.Need-starlink-rules-requires
+starlink-requires c κs = search needs
+
+returns-5 : tie.Need-returns-5
+unfolding rules-of value-among ruled
+returns-5 c =
+    let w = in-range _ (c .before .before .before .before .before .pre) in
+    let e : c .before .before .before .before .before .args .n ≡ last =
+    omega (arith, w .least, w .most, c .before .before .before .before .if1 .left, c .before .before .before .if2 .left, c .before .before .if3 .left, c .before .if4 .left) in
+    rw (e, c .starlink-rules .ensures)
 
 pub rules-spec : {M : Type 1} → statement M
 rules-spec =
@@ -49,4 +57,6 @@ rules-spec =
     cds-requires
     returns-3
     vounits-requires
-    returns-4)
+    returns-4
+    starlink-requires
+    returns-5)

@@ -25,4 +25,4 @@ first-name-spec =
     (λ c. first-in-row 40 8 3 refl _ (omega arith) (omega arith))
     (λ c. first-in-row 48 4 4 refl _ (omega arith) (omega arith))
     (λ c. first-in-row 52 8 5 refl _ (omega arith) (omega arith))
-    (λ c. first-in-row 60 (unit-count + 1 - 60) 6 refl _ (omega arith) (omega arith)))
+    (λ c. first-in-row 60 (unit-count + 1 - 60) 7 refl _ (omega arith) (omega arith)))

@@ -67,4 +67,5 @@ first-in-group-spec =
     (λ c. sym (ap start (c .match .keys56)))
     (λ c. sym (ap start (c .match .keys57)))
     (λ c. sym (ap start (c .match .keys58)))
+    (λ c. sym (ap start (c .match .keys59)))
     (λ c. sym (no-start (c .before .args .group) (c .match .rest))))

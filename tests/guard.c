@@ -7,7 +7,7 @@
 #include "labels.h"
 #include "longest.h"
 
-enum { FILL = 0xAA, PAST = 64, BUFFER_ROOM = THALINGUZE_RECORD_SIZE + PAST, TARGETS = 6 };
+enum { FILL = 0xAA, PAST = 64, BUFFER_ROOM = THALINGUZE_RECORD_SIZE + PAST, NOTATIONS = THALINGUZE_STARLINK, TARGETS = NOTATIONS + 2 };
 
 /* how many inputs a call got, and how many it accepted */
 struct tally {
@@ -200,7 +200,7 @@ static void try_nulls(void) {
     const struct vector empty = {.size = 0};
     for (uint32_t source = 0; source < TARGETS; source++)
         for (uint32_t target = 0; target < TARGETS; target++) {
-            bool from = source >= 1 && source <= 4, both = from && target >= 1 && target <= 4;
+            bool from = source >= 1 && source <= NOTATIONS, both = from && target >= 1 && target <= NOTATIONS;
             struct thalinguze_rewritten r = thalinguze_rewrite(source, NULL, 0, target, NULL, 0), w = thalinguze_words(source, NULL, 0, NULL, 0);
             check(thalinguze_read(source, NULL, 0, NULL, 0) == (from ? 0 : 1), &reading, &empty, 0);
             check(r.number == (both ? 0 : 1) && r.length == 0, &rewriting.tally, &empty, 0);
@@ -211,7 +211,7 @@ static void try_nulls(void) {
 
 /* INPUTS */
 
-/* one label through each call, in the four notations and with two numbers that are none */
+/* one label through each call, in every notation and with two numbers that are none */
 static void try_everywhere(const struct vector *v) {
     struct vector other = *v;
     for (other.notation = 0; other.notation < TARGETS; other.notation++) {
@@ -251,8 +251,8 @@ static void try_pairs(const char *name) {
 
 /* the number of a notation's name; 0 for any other text */
 static uint32_t notation_of(const char *name) {
-    static const char *const names[] = {"", "fits", "ogip", "cds", "vou"};
-    for (uint32_t n = 1; n <= 4; n++)
+    static const char *const names[] = {"", "fits", "ogip", "cds", "vou", "starlink"};
+    for (uint32_t n = 1; n <= NOTATIONS; n++)
         if (strcmp(names[n], name) == 0)
             return n;
     return 0;
@@ -323,6 +323,7 @@ int main(int argc, char **argv) {
     try_all_sizes_of_words();
     try_file("vectors/readings.tsv", try_everywhere);
     try_file("vectors/symbols.tsv", try_here);
+    try_file("vectors/starlink.tsv", try_here);
     try_pairs("vectors/converts.tsv");
     try_lines("vectors/lines.in");
     read_vectors("vectors/readings.tsv");

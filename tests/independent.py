@@ -1,5 +1,5 @@
 #!/usr/bin/env python3
-"""A second implementation of document 01 and its decisions, and of W1 and W2 in document 02, to compare the library with. It was written
+"""A second implementation of document 01 and its decisions, and of W1 to W3 in document 02, to compare the library with. It was written
 without sight of the library.
 
 usage: independent.py [read]            reads lines NOTATION HEX, and prints each with its reading, as `thalinguze read --vectors` does
@@ -10,6 +10,8 @@ usage: independent.py [read]            reads lines NOTATION HEX, and prints eac
        independent.py symbols           prints the lines of vectors/symbols.tsv
        independent.py spoken            prints the lines of vectors/words.tsv
        independent.py decimals          prints the lines of vectors/decimals.tsv
+       independent.py starlink          prints the lines of vectors/starlink.tsv
+       independent.py starlink-lines    prints vectors/starlink.in
        independent.py cases KIND SEED COUNT [all]
                                         prints cases for read, rewrite, convert, words or lines: those at an edge, COUNT others, and with
                                         `all` every unit with every prefix in every notation (words), also into every notation (rewrite),
@@ -22,7 +24,8 @@ HEX is a label's bytes in hexadecimal, `-` if there are none. SIZE is the lent b
 import sys
 
 from second import (convert_cases, converting, decimal_cases, line_cases, lines, read_cases, reading, rewrite_cases, speaking, spoken,
-                    word_cases, writing)
+                    starlink_cases, word_cases, writing)
+from second.notations import NOTATIONS
 from second.symbols import spellings
 
 
@@ -77,15 +80,23 @@ def print_lines():
 
 def print_stored(labels):
     for notation, data in labels:
-        print(notation, data.hex(), reading.shown(notation, data))
+        print(notation, data.hex() or '-', reading.shown(notation, data))
 
 
 def print_symbols():
-    print_stored((notation, spelling.encode('ascii')) for notation in reading.GRAMMARS for spelling in spellings(notation))
+    print_stored((notation, spelling.encode('ascii')) for notation in NOTATIONS for spelling in spellings(notation))
 
 
 def print_decimals():
     print_stored(decimal_cases.stored())
+
+
+def print_starlink():
+    print_stored(starlink_cases.stored())
+
+
+def print_starlink_lines():
+    sys.stdout.buffer.write(line_cases.stored())
 
 
 CASES = {'read': read_cases, 'rewrite': rewrite_cases, 'convert': convert_cases, 'words': word_cases, 'lines': line_cases}
@@ -125,7 +136,8 @@ def print_met(least, *files):
 
 
 MODES = {'read': print_readings, 'rewrite': print_rewritings, 'convert': print_conversions, 'words': print_words, 'lines': print_lines,
-         'symbols': print_symbols, 'spoken': print_spoken, 'decimals': print_decimals, 'cases': print_cases, 'met': print_met}
+         'symbols': print_symbols, 'spoken': print_spoken, 'decimals': print_decimals, 'starlink': print_starlink, 'starlink-lines': print_starlink_lines,
+         'cases': print_cases, 'met': print_met}
 
 
 if __name__ == '__main__':

@@ -60,9 +60,9 @@ static size_t add_unit(uint8_t *label, size_t size, uint32_t notation) {
 
 /* pieces of labels in the notation's manner: many are accepted */
 static size_t random_text(uint8_t *label, uint32_t notation) {
-    static const char *const joins[5][4] = {{".", " ", "/", "*"}, {" ", "*", ".", " "}, {" ", "*", " / ", "/"}, {".", ".", "/", "/"}, {".", ".", ".", "."}};
-    static const char *const factors[5][3] = {{"10", "1", "10+3"}, {"10**3 ", "10^-2", "10+3"}, {"10**3 ", "100", "10**(-5)"}, {"10+3", "10", "1"}, {"10**3", "100", "10**(7)"}};
-    unsigned kind = notation <= 4 ? (unsigned)notation : 0, terms = below(10) == 0 ? 1 + below(40) : 1 + below(5), open = 0;
+    static const char *const joins[6][4] = {{".", " ", "/", "*"}, {" ", "*", ".", " "}, {" ", "*", " / ", "/"}, {".", ".", "/", "/"}, {".", ".", ".", "."}, {"*", "*", "*", "*"}};
+    static const char *const factors[6][3] = {{"10", "1", "10+3"}, {"10**3 ", "10^-2", "10+3"}, {"10**3 ", "100", "10**(-5)"}, {"10+3", "10", "1"}, {"10**3", "100", "10**(7)"}, {"", "", "10**3*"}};
+    unsigned kind = notation <= THALINGUZE_STARLINK ? (unsigned)notation : 0, terms = below(10) == 0 ? 1 + below(40) : 1 + below(5), open = 0;
     size_t size = below(4) ? 0 : add(label, 0, factors[kind][below(3)]);
     for (unsigned i = 0; i < terms; i++) {
         if (i)
@@ -75,7 +75,7 @@ static size_t random_text(uint8_t *label, uint32_t notation) {
     }
     for (; open; open--)
         size = add(label, size, ")");
-    if (below(3) == 0 && terms < 30 && (notation == 1 || notation == 4)) {
+    if (below(3) == 0 && terms < 30 && (notation == 1 || notation >= 4)) {
         size = add(label, size, "/");
         size = add_unit(label, size, notation);
     }

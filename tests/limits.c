@@ -57,12 +57,12 @@ static const char *nested(int n) {
 
 /* notation numbers, bytes, terms and brackets */
 static void sizes(void) {
-    const char *const separators[] = {"", ".", " ", ".", "."};
+    const char *const separators[] = {"", ".", " ", ".", ".", "*"};
     expect(0, "m", 1, 0, 0);
-    expect(5, "m", 1, 0, 0);
+    expect(THALINGUZE_STARLINK + 1, "m", 1, 0, 0);
     expect(UINT32_MAX, "m", 1, 0, 0);
     expect(257, "m", 1, 0, 0);
-    for (uint32_t n = 1; n <= 4; n++) {
+    for (uint32_t n = 1; n <= THALINGUZE_STARLINK; n++) {
         expect(n, "", 0, 0, 0);
         expect_bytes(n, (const uint8_t *)"m" + 1, 0, 0, 0, 0);
         expect(n, "m", 0, 1, 0);
@@ -85,8 +85,8 @@ static void sizes(void) {
 
 /* exponents: 99 and 100, and digit runs of 4 and 5 */
 static void whole_exponents(void) {
-    const char *const power[] = {"", "**", "**", "", "**"};
-    for (uint32_t n = 1; n <= 4; n++) {
+    const char *const power[] = {"", "**", "**", "", "**", "**"};
+    for (uint32_t n = 1; n <= THALINGUZE_STARLINK; n++) {
         expect(n, joined("m", power[n], "99"), 0, 1, 0);
         expect(n, joined("m", power[n], "100"), 5, 0, 0);
         expect(n, joined("m", power[n], "-99"), 0, 1, 0);
@@ -106,7 +106,9 @@ static void fractions(void) {
     expect(1, "m**(99990/99990)", 5, 0, 0);
     expect(1, "m(1.0000)", 0, 1, 0);
     expect(1, "m(1.00000)", 5, 0, 0);
-    for (uint32_t n = 2; n <= 4; n += 2) {
+    for (uint32_t n = 1; n <= THALINGUZE_STARLINK; n++) {
+        if (n == THALINGUZE_CDS)
+            continue;
         expect(n, "m**(1.0000)", 0, 1, 0);
         expect(n, "m**(1.00000)", 5, 0, 0);
         expect(n, "m**(9999/9999)", 0, 1, 0);
@@ -130,10 +132,10 @@ static void decimals(void) {
         unsigned number = powers[i].number, terms = number == 0;
         expect(1, joined("m(", powers[i].power, ")"), number, terms, 0);
         expect(1, joined("m^(", powers[i].power, ")"), number, terms, 0);
-        for (uint32_t n = 1; n <= 4; n++)
+        for (uint32_t n = 1; n <= THALINGUZE_STARLINK; n++)
             expect(n, joined("m**(", powers[i].power, ")"), n == 3 ? 4 : number, n == 3 ? 0 : terms, 0);
         if (strchr(powers[i].power, '.'))
-            for (uint32_t n = 1; n <= 4; n++)
+            for (uint32_t n = 1; n <= THALINGUZE_STARLINK; n++)
                 expect(n, joined("m**", powers[i].power, ""), 4, 0, 0);
     }
 }
@@ -164,6 +166,9 @@ static void factors(void) {
         expect(n, joined("1", times(100, "0"), "m"), 5, 0, 0);
         expect(n, joined("1", times(253, "0"), "m"), 5, 0, 0);
     }
+    expect(THALINGUZE_STARLINK, "10**3*m", 4, 0, 0);
+    expect(THALINGUZE_STARLINK, "10**3m", 4, 0, 0);
+    expect(THALINGUZE_STARLINK, "1m", 4, 0, 0);
 }
 
 /* WORDS */
@@ -203,12 +208,12 @@ static void expect_unspoken(uint32_t notation, const char *text, unsigned number
 }
 
 static void sizes_of_words(void) {
-    const char *const separators[] = {"", ".", " ", ".", "."};
+    const char *const separators[] = {"", ".", " ", ".", ".", "*"};
     static char words[4096];
     expect_unspoken(0, "", 1);
-    expect_unspoken(5, "m", 1);
+    expect_unspoken(THALINGUZE_STARLINK + 1, "m", 1);
     expect_unspoken(UINT32_MAX, times(256, "m"), 1);
-    for (uint32_t n = 1; n <= 4; n++) {
+    for (uint32_t n = 1; n <= THALINGUZE_STARLINK; n++) {
         expect_spoken(n, "", "");
         expect_words(n, "", 0, 0, "");
         expect_spoken(n, "m", "metre");
@@ -230,15 +235,17 @@ static void sizes_of_words(void) {
 }
 
 static void powers_of_words(void) {
-    const char *const power[] = {"", "**", "**", "", "**"}, *const factor[] = {"", "10", "10**", "10", "10**"};
-    for (uint32_t n = 1; n <= 4; n++) {
+    const char *const power[] = {"", "**", "**", "", "**", "**"}, *const factor[] = {"", "10", "10**", "10", "10**", NULL};
+    for (uint32_t n = 1; n <= THALINGUZE_STARLINK; n++) {
         expect_spoken(n, joined("m", power[n], "1"), "metre");
         expect_spoken(n, joined("m", power[n], "99"), "metre to the 99");
         expect_spoken(n, joined("m", power[n], "-99"), "metre to the minus 99");
         expect_unspoken(n, joined("m", power[n], "100"), 5);
-        expect_spoken(n, joined(factor[n], "+99", "m"), "ten to the 99 metre");
-        expect_spoken(n, joined(factor[n], "-99", "m"), "ten to the minus 99 metre");
-        expect_unspoken(n, joined(factor[n], "-100", "m"), 5);
+        if (factor[n]) {
+            expect_spoken(n, joined(factor[n], "+99", "m"), "ten to the 99 metre");
+            expect_spoken(n, joined(factor[n], "-99", "m"), "ten to the minus 99 metre");
+            expect_unspoken(n, joined(factor[n], "-100", "m"), 5);
+        }
         if (n == THALINGUZE_CDS)
             continue;
         expect_spoken(n, joined("m", power[n], "(1/60)"), "metre to the 1 over 60");

@@ -44,6 +44,9 @@ line 'two tabs' '1\tcds\tm\n' '\t15\t\n'
 line 'four tabs' '1\tcds\tm\tcds\t\n' '\t15\t\n'
 line 'three tabs alone' '\t\t\t\n' '\t1\t\n'
 line 'names of other notations' '1\tFITS\tm\tcds\n2\tfits\tm\tcd\n3\tfits \tm\tcds\n4\t\tm\t\n' '1\t1\t\n2\t1\t\n3\t1\t\n4\t1\t\n'
+line 'Starlink' '1\tstarlink\tJ/(m**2*Ang)\tfits\n2\togip\tangstrom\tstarlink\n3\tcds\t10+3m\tstarlink\n4\tstarlink\t/s\tfits\n' \
+    '1\t0\tJ m-2 Angstrom-1\n2\t0\tAng\n3\t12\t\n4\t4\t\n'
+line 'names that are nearly Starlink' '1\tStarlink\tm\tcds\n2\tstarlin\tm\tcds\n3\tcds\tm\tstarlinks\n4\tcds\tm\tstar\n' '1\t1\t\n2\t1\t\n3\t1\t\n4\t1\t\n'
 line 'the text before the name of the target' 'x\tfits\tkg/m s\tfoo\n' 'x\t4\t\n'
 line 'the name of the source before the text' 'x\tfoo\tkg/m s\tfits\n' 'x\t1\t\n'
 line 'carriage returns' 'a\tcds\tm\tcds\r\n\r\nb\r\tcds\tm\tfits\n' 'a\t1\t\n\t15\t\nb\r\t0\tm\n'
@@ -61,9 +64,11 @@ for size in 512 513 514 1000 65535 65536 65537 200000 10000000; do
 done
 
 # The vectors, whole and in chunks of many sizes.
-cp vectors/lines.in "$directory/in"
-cp vectors/lines.out "$directory/wanted"
-answers 'vectors/lines.in'
+for name in lines starlink; do
+    cp "vectors/$name.in" "$directory/in"
+    cp "vectors/$name.out" "$directory/wanted"
+    answers "vectors/$name.in"
+done
 for size in 1 2 7 512 513 1000; do
     dd if=vectors/lines.in bs="$size" status=none | "$program" | cmp - vectors/lines.out || fail "chunks of $size bytes: other bytes"
     tried=$((tried + 1))

@@ -22,9 +22,11 @@ stored() {
 second symbols | stored vectors/symbols.tsv
 second spoken | stored vectors/words.tsv
 second decimals | stored vectors/decimals.tsv
+second starlink | stored vectors/starlink.tsv
 cut -d' ' -f1,2 vectors/readings.tsv | second read | stored vectors/readings.tsv
 cut -d' ' -f1-4 vectors/converts.tsv | second convert | stored vectors/converts.tsv
-second lines <vectors/lines.in | stored vectors/lines.out
+second starlink-lines | stored vectors/starlink.in
+for name in lines starlink; do second lines <"vectors/$name.in" | stored "vectors/$name.out"; done
 echo 'the second implementation says what the stored readings, conversions, words and lines say'
 
 for kind in read rewrite convert words lines; do

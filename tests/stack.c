@@ -1,5 +1,5 @@
 /* How much stack a call takes at most: stack [LIMIT] [COUNT]. Reads labels of repeated parts, as deep and as long as 255 bytes allow,
-   under the notation numbers 0 to 5, and COUNT random labels, rewrites each in VOUnits, converts each to itself and writes each as words. Bytes
+   under the notation numbers 0 to 6, and COUNT random labels, rewrites each in VOUnits, converts each to itself and writes each as words. Bytes
    are counted from the caller's frame on. */
 #define _POSIX_C_SOURCE 200809L
 #include "labels.h"
@@ -84,7 +84,7 @@ static void measure_shape(const struct shape *shape, unsigned times) {
     size = add(label, size, shape->core);
     for (unsigned i = 0; i < times; i++)
         size = add(label, size, shape->closing);
-    for (uint32_t notation = 0; notation <= 5; notation++) {
+    for (uint32_t notation = 0; notation <= THALINGUZE_STARLINK + 1; notation++) {
         measure(notation, label, size);
         measure(notation, label, size);
     }
@@ -110,7 +110,7 @@ int main(int argc, char **argv) {
     for (unsigned i = 0; i < vector_count; i++)
         measure(vectors[i].notation, vectors[i].label, vectors[i].size);
     for (unsigned long i = 0; i < count; i++) {
-        uint32_t notation = below(6);
+        uint32_t notation = below(THALINGUZE_STARLINK + 2);
         measure(notation, label, random_label(label, notation));
     }
     size_t most = 0;

@@ -2,12 +2,12 @@
 from fractions import Fraction
 from random import Random
 
-from . import decimal_cases
+from . import decimal_cases, starlink_cases
 from .converting import LARGEST, LARGEST_POWER
 from .labels import PREFIX_NAMES, label
-from .rewrite_cases import NO_NOTATIONS, NOTATIONS, written
+from .notations import CDS, FITS, NO_NOTATIONS, NOTATIONS, OGIP, STARLINK, VOUNITS
+from .rewrite_cases import written
 from .symbols import NAMES, SHOWN, SIZE, symbol
-from .writing import CDS, FITS, OGIP, VOUNITS
 
 
 def both_ways(cases):
@@ -51,7 +51,7 @@ def special():
 def refused():
     """Refusals 1 to 7 of either label: the first label's come first."""
     labels = [(FITS, b'm'), (FITS, b'q'), (FITS, b'm' * 256), (CDS, b'm\x80'), (VOUNITS, b'/m'), (OGIP, b'm**100'),
-              (FITS, b'(' * 9 + b'm' + b')' * 9), (CDS, b'.'.join([b'm'] * 33))]
+              (FITS, b'(' * 9 + b'm' + b')' * 9), (CDS, b'.'.join([b'm'] * 33)), (STARLINK, b'/m'), (STARLINK, b'm**100')]
     labels += [(number, b'm') for number in NO_NOTATIONS]
     return [first + second for first in labels for second in labels]
 
@@ -142,7 +142,7 @@ def convertible(random):
         above.append((prefixed(random, first, random.choice(ALIKE[first][bases])), exponent))
         below += [(prefixed(random, second, random.choice(ALIKE[second][bases])), half) for half in halves]
     random.shuffle(below)
-    powers = [random.choice([0, 0, 3, -22, 99]) for _ in range(2)]
+    powers = [random.choice([0, 0, 3, -22, 99]) if notation != STARLINK else 0 for notation in (first, second)]
     labels = written(first, powers[0], above), written(second, powers[1], below)
     return (first, labels[0], second, labels[1]) if None not in labels else convertible(random)
 
@@ -157,7 +157,8 @@ def cases(seed, count, everything):
     pairs = every_pair()
     if not everything:
         pairs = random.sample(pairs, min(count // 4, len(pairs)))
-    found = special() + refused() + roots() + decimal_cases.converted() + around_largest() + around_largest_power() + pairs
+    found = special() + both_ways(starlink_cases.converted()) + refused() + roots() + decimal_cases.converted()
+    found += around_largest() + around_largest_power() + pairs
     others = count - count // 4
     return found + [convertible(random) if number % 4 else unlike(random) for number in range(others)]
 

@@ -1,6 +1,6 @@
 """Labels with decimals and with what looks like one: document 02, "Half powers written as decimals". All kinds of cases have them, and
 vectors/decimals.tsv has some."""
-from .writing import CDS, FITS, OGIP, VOUNITS
+from .notations import CDS, FITS, OGIP, STARLINK, VOUNITS
 
 ACCEPTED = '0.5 -0.5 +0.5 0.25 +0.25 -0.75 0.05 0.0500 0.1 0.3 0.20 1.0 1.5 9.5 10.05 99.0'
 # in the grammar, but all digits are 0, or there are five, or the denominator doesn't divide 60, or the size is above 99
@@ -11,9 +11,9 @@ SOME = '0.5 -0.75 1.5 0.0 00.5 .5 0'.split()
 
 # All forms of an exponent, and each notation's own, one that has decimals first
 FORMS = '(%s) **(%s) ^(%s) %s **%s ^%s'.split()
-OWN = {FITS: FORMS, OGIP: ['**(%s)', '**%s'], CDS: ['%s'], VOUNITS: ['**(%s)', '**%s']}
+OWN = {FITS: FORMS, OGIP: ['**(%s)', '**%s'], CDS: ['%s'], VOUNITS: ['**(%s)', '**%s'], STARLINK: ['**(%s)', '**%s']}
 # The notations that have decimals, and what joins units there
-WITH_DECIMALS = {FITS: ' ', OGIP: '*', VOUNITS: '.'}
+WITH_DECIMALS = {FITS: ' ', OGIP: '*', VOUNITS: '.', STARLINK: '*'}
 
 # Below a slash, which turns the sign; beside other units, groups and exponents; and in a factor, which has no decimals
 INSIDE = {
@@ -26,6 +26,9 @@ INSIDE = {
     VOUNITS: "kg/(m**(0.5).s) kg/(m**(-0.5).s**(+0.25)/K**(0.75)) kg/Hz**(0.5) kg/(s/m**(0.5)) kg/m**(-0.05) kg/((m**(0.5)).s**(0.5))"
              " kg/(m**(0.0).s) m**(0.5).m**(1/2) m**(0.5)s m**(0.5)**(0.5) (m)**(0.5) m**(0.0)/ k'm'**(-0.75) 10**(-3)Hz**(0.5) 10**(0.5)m"
              " 10**0.5m 10**(0.0)m 0.5m 1.0m (0.5) 0.5",
+    STARLINK: 'kg/(m**(0.5)*s) kg/(m**(-0.5)*s**(+0.25)*K**(0.75)) kg/Hz**(0.5) kg/(s/m**(0.5)) kg/m**(-0.05) kg/((m**(0.5))*s**(0.5))'
+              ' kg/(m**(0.0)*s) m**(0.5)*m**(1/2) m**(0.5)/s**(0.5) m**(0.5)/s/kg**(0.5) m**(0.5)s m**(0.5)**(0.5) (m)**(0.5) m**(0.0)/ /m**(0.0)'
+              ' 10**(0.5)*m 10**0.5*m 10**(0.0)*m 0.5*m 0.5m 1.0*m (0.5) 0.5',
 }
 
 # For conversions: two units, and an exponent of each

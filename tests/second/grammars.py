@@ -1,10 +1,13 @@
-"""The four grammars, one for each notation, and a recogniser that knows nothing of notations.
+"""The five grammars, one for each notation, and a recogniser that knows nothing of notations.
 
-Each grammar is written as its paragraph in document 01 is, with the decimals of document 02, W2. The recogniser finds every meaning that a
-grammar gives a text: each rule, at each place, gives the set of all (end, meaning), and no longest match is taken anywhere."""
+Each grammar is written as its paragraph in document 01, or in document 02, W3, is, with the decimals of document 02, W2. The recogniser finds
+every meaning that a grammar gives a text: each rule, at each place, gives the set of all (end, meaning), and no longest match is taken
+anywhere."""
 import re
 import sys
 from math import gcd
+
+from .notations import NOTATIONS
 
 sys.setrecursionlimit(200000)
 
@@ -83,6 +86,16 @@ body     = product | product over
 group    = "(" body ")"
 factor   = tenint | tenbr | plain
 whole    = | body | factor body
+'''
+
+STARLINK = COMMON + r'''
+plainsp  = letters
+spelling = plainsp
+exponent = "**" power
+product  = item | item "*" product
+group    = "(" product ")"
+over     = "/" item
+whole    = | product | product over
 '''
 
 # MEANINGS: what a rule makes of the text from s to e and of the meanings of its parts.
@@ -244,4 +257,4 @@ class Grammar:
         return self.memo[name, at]
 
 
-GRAMMARS = {1: Grammar(FITS), 2: Grammar(OGIP), 3: Grammar(CDS), 4: Grammar(VOUNITS)}
+GRAMMARS = dict(zip(NOTATIONS, map(Grammar, (FITS, OGIP, CDS, VOUNITS, STARLINK))))

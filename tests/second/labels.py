@@ -1,5 +1,6 @@
 """Random labels: valid ones from the grammars' own rules, damaged ones and hostile ones."""
 from .grammars import GRAMMARS
+from .notations import CDS, FITS, OGIP, STARLINK, VOUNITS
 from .symbols import NAMES, PREFIXES
 
 LETTERS = 'abcdefghijklmnopqrstuvwxyzABCDEFGHIJKLMNOPQRSTUVWXYZ'
@@ -88,7 +89,7 @@ def any_signs(random, notation):
 
 def many(random, notation):
     """Many labels in a row: at and above 32 terms and 255 bytes."""
-    join = {1: b' ', 2: b'*', 3: b'.', 4: b'.'}[notation]
+    join = {FITS: b' ', OGIP: b'*', CDS: b'.', VOUNITS: b'.', STARLINK: b'*'}[notation]
     size = random.choice([1, 1, 2, 3, 7])
     words = [spelling(random, notation)[:size].encode('ascii') for _ in range(random.choice([31, 32, 33, 34]))]
     return join.join(words)

@@ -1,7 +1,9 @@
 """The line program: document 01, "Lines"."""
+from .notations import NOTATIONS
 from .writing import rewrite
 
-NOTATIONS = {b'fits': 1, b'ogip': 2, b'cds': 3, b'vou': 4}
+# "line programs accept the name starlink"
+NAMED = dict(zip((b'fits', b'ogip', b'cds', b'vou', b'starlink'), NOTATIONS))
 NO_NOTATION = 0
 LARGEST_LINE = 512
 ROOM = 255
@@ -13,7 +15,7 @@ def answer(line):
         return b'\t15\t\n'
     # "Input, fields parted by tabs: id, notation (fits, ogip, cds, vou), text, target." "Another notation name: 1."
     identifier, source, text, target = line.split(b'\t')
-    number, result = rewrite(NOTATIONS.get(source, NO_NOTATION), text, NOTATIONS.get(target, NO_NOTATION), ROOM)
+    number, result = rewrite(NAMED.get(source, NO_NOTATION), text, NAMED.get(target, NO_NOTATION), ROOM)
     # "Output: id, number, result (empty if refused)."
     return b'%s\t%d\t%s\n' % (identifier, number, result)
 

@@ -1,9 +1,11 @@
 """Cases for reading: (notation, label)."""
 from random import Random
 
-from . import decimal_cases
+from . import decimal_cases, starlink_cases
 from .labels import ALL_NAMES, PREFIX_NAMES, label
-from .rewrite_cases import JOIN, NO_NOTATIONS, NOTATIONS, numbers, refused, special
+from .notations import NO_NOTATIONS, NOTATIONS
+from .rewrite_cases import numbers, refused, special
+from .writing import JOIN
 
 
 def every_spelling():
@@ -21,6 +23,7 @@ def cases(seed, count):
     random = Random(seed)
     found = [(source, data) for source, data, _, _ in special() + numbers() + refused()]
     found = sorted(set(found)) + every_spelling() + many_terms() + decimal_cases.own() + decimal_cases.foreign()
+    found += starlink_cases.everywhere() + starlink_cases.rewritten()
     for _ in range(count):
         notation = random.choice(NOTATIONS)
         data = label(random, notation)

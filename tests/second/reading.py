@@ -60,7 +60,7 @@ def read(notation, data):
 
 
 def unit(term):
-    """The unit of a known term, the same for both of its names."""
+    """The unit of a known term, the same for all of its names."""
     return SHOWN.get(term.name, term.name)
 
 

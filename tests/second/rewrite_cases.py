@@ -2,25 +2,22 @@
 from fractions import Fraction
 from random import Random
 
-from . import decimal_cases
-from .labels import label
-from .symbols import NAMES, spellings
-from .writing import CDS, FITS, OGIP, VOUNITS, rewrite, written_exponent, written_factor
+from . import decimal_cases, starlink_cases
+from .labels import ALL_NAMES, label
+from .notations import CDS, FITS, NO_NOTATIONS, NOTATIONS, OGIP, STARLINK, VOUNITS
+from .symbols import spellings
+from .writing import JOIN, rewrite, written_exponent, written_factor
 
-NOTATIONS = sorted(NAMES)
 ROOM = 255
-JOIN = {FITS: ' ', OGIP: ' ', CDS: '.', VOUNITS: '.'}
-# Notation numbers that are none
-NO_NOTATIONS = (0, 5, 255, 257, 4294967295)
 
 
 def written(notation, k, terms):
-    """A label of pairs of a spelling and an exponent; None where an exponent has no form."""
-    exponents = [written_exponent(notation, Fraction(exponent)) for _, exponent in terms]
-    if None in exponents:
+    """A label of pairs of a spelling and an exponent; None where k or an exponent has no form."""
+    factor, exponents = written_factor(notation, k), [written_exponent(notation, Fraction(exponent)) for _, exponent in terms]
+    if factor is None or None in exponents:
         return None
     words = [spelling + exponent for (spelling, _), exponent in zip(terms, exponents)]
-    return (written_factor(notation, k) + JOIN[notation].join(words)).encode('ascii')
+    return (factor + JOIN[notation].join(words)).encode('ascii')
 
 
 def into_all(cases):
@@ -41,6 +38,7 @@ def special():
         CDS: "% %2 %/s 10+3% %.%-2 mas pixel da kg/m.s 10+3pix/h u ph erg dadu a Pa m/(s.(g/K))",
         VOUNITS: "'xyz' k'xyz' 'm' k'm' 'furlong' d'ax' da'm' d'a' da'du' 'da' 'q' 'qq'**(1/2) f'urlong' 'ph' kg/(m.s) p'h' 'Pa' P'a'"
                  " h'erg' 'erg' furlong y'y' d'u' 'u' ph angstrom Angstrom 'bit' Y'ohm' 'ohm'",
+        STARLINK: "J/(m**2*Ang*count) Ang kAng angstrom Angstrom ph u dadu da mas pix photon count ohm Ohm m**-2 m**(1.5) m/s**(1/2) a cd furlong",
     }
     cases = {source: [''] + words[source].split() for source in NOTATIONS}
     return into_all((source, text.encode('ascii')) for source in NOTATIONS for text in cases[source])
@@ -59,6 +57,15 @@ def decimals():
     """Decimals and what looks like one: into every notation; in other notations' forms, which are refused, into one; a few with each buffer."""
     found = into_all(decimal_cases.own()) + [(source, data, OGIP, ROOM) for source, data in decimal_cases.foreign()]
     return found + buffers(into_all(decimal_cases.halves()))
+
+
+def starlink():
+    """Starlink's edges and labels with Ang or a factor, into every notation and into numbers that are none; every name into and from Starlink."""
+    found = into_all(starlink_cases.labels() + starlink_cases.rewritten())
+    found += [(source, data, target, ROOM) for source, data in starlink_cases.rewritten() for target in NO_NOTATIONS]
+    pairs = [(source, STARLINK) for source in NOTATIONS] + [(STARLINK, target) for target in NOTATIONS if target != STARLINK]
+    found += [(source, name.encode('ascii'), target, ROOM) for source, target in pairs for name in ALL_NAMES]
+    return found + buffers(into_all([(STARLINK, b'J/(m**2*Ang*count)'), (STARLINK, b'Ang'), (STARLINK, b'')]))
 
 
 def of_length(source, target, length):
@@ -99,15 +106,17 @@ def refused():
         terms = JOIN[notation].join(['m'] * 33).encode('ascii')
         labels[notation] = [b'm', b'm' * 256, b'\x1f', b'm\x7f', b'm\xff', b'm\0', b'm..m', b'm000', terms, brackets + b'm' + closing,
                             brackets + terms + closing, written(notation, 0, [('m', 100)]), written(notation, 100, [('m', 1)])]
-    sources = [(source, data) for source in NOTATIONS for data in labels[source]]
+    sources = [(source, data) for source in NOTATIONS for data in labels[source] if data is not None]
     sources += [(source, data) for source in NO_NOTATIONS for data in (b'm', b'', b'm' * 256, b'\xff')]
-    return [(source, data, target, size) for source, data in sources for target in NO_NOTATIONS + (1, 2, 4) for size in (0, ROOM)]
+    targets = NO_NOTATIONS + (FITS, OGIP, VOUNITS, STARLINK)
+    return [(source, data, target, size) for source, data in sources for target in targets for size in (0, ROOM)]
 
 
 def order():
     """12 before 13 before 14."""
     long = b'/(' + b'.'.join([b's'] * 31) + b')'
-    return [(CDS, data + long, target, size) for data in (b'%', b'q' * 180) for target in NOTATIONS for size in (0, 10, ROOM)]
+    labels = (b'%', b'q' * 180, b'10+3m', b'10+3' + b'q' * 180)
+    return [(CDS, data + long, target, size) for data in labels for target in NOTATIONS for size in (0, 10, ROOM)]
 
 
 def cases(seed, count, everything):
@@ -115,7 +124,7 @@ def cases(seed, count, everything):
     symbols = every_symbol()
     if not everything:
         symbols = random.sample(symbols, min(count // 2, len(symbols)))
-    found = special() + buffers(special()[::3]) + numbers() + decimals() + lengths() + refused() + order() + symbols
+    found = special() + buffers(special()[::3]) + numbers() + decimals() + starlink() + lengths() + refused() + order() + symbols
     for _ in range(count - count // 2):
         source, target = random.choice(NOTATIONS), random.choice(NOTATIONS)
         size = random.choice([ROOM] * 8 + [0, 3, 10, 20, 30, 254, 256])

@@ -4,7 +4,7 @@ import re
 from .reading import read, unit
 from .symbols import NAMES, PREFIXES, SHOWN
 
-# "Each known unit and each prefix has one spoken name, an English one": symbols and the name; a unit with two symbols has a slash
+# "Each known unit and each prefix has one spoken name, an English one": symbols and the name; slashes part the symbols of one unit
 SPOKEN_PREFIXES = '''da deca, h hecto, k kilo, M mega, G giga, T tera, P peta, E exa, Z zetta, Y yotta,
 d deci, c centi, m milli, u micro, n nano, p pico, f femto, a atto, z zepto, y yocto'''
 SPOKEN_UNITS = '''m metre, g gram, s second, A ampere, K kelvin, mol mole, cd candela, rad radian, sr steradian, Hz hertz, N newton, Pa pascal,
@@ -12,7 +12,7 @@ J joule, W watt, C coulomb, V volt, S siemens, F farad, Wb weber, T tesla, H hen
 deg degree, arcmin arcminute, arcsec arcsecond, AU astronomicalunit, pc parsec, eV electronvolt, Jy jansky, barn barn, mag magnitude, byte byte,
 mas milliarcsecond, pix/pixel pixel, ct/count count, Ry rydberg, solMass solarmass, solLum solarluminosity, solRad solarradius, D debye,
 Sun sun, bit bit, Ohm/ohm ohm, erg erg, G gauss, lyr lightyear, ph/photon photon, chan channel, bin bin, voxel voxel, u dalton, R rayleigh,
-adu datanumber, beam beam, angstrom/Angstrom angstrom, % percent'''
+adu datanumber, beam beam, angstrom/Angstrom/Ang angstrom, % percent'''
 RESERVED = 'unit end ten to the over minus'.split()
 
 
@@ -32,7 +32,7 @@ def check_words():
     assert not set(WORDS) & set(RESERVED), 'a spoken name is reserved'
     assert set(PREFIX_WORD) == set(PREFIXES) and set(UNIT_WORD) == set().union(*NAMES.values()), 'a prefix or unit has no spoken name'
     assert len(set(UNIT_WORD.values())) == len({SHOWN.get(symbol, symbol) for symbol in UNIT_WORD}), 'a unit has two spoken names'
-    assert all(UNIT_WORD[symbol] == UNIT_WORD[other] for symbol, other in SHOWN.items()), 'two symbols of one unit are spoken differently'
+    assert all(UNIT_WORD[symbol] == UNIT_WORD[other] for symbol, other in SHOWN.items()), 'symbols of one unit are spoken differently'
 
 
 check_words()

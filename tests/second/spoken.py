@@ -1,14 +1,15 @@
 """Labels whose words are stored: the lines of vectors/words.tsv."""
+from .notations import CDS, FITS, NOTATIONS, OGIP, STARLINK, VOUNITS
 from .speaking import PREFIX_WORD, UNIT_WORD, speak
 from .symbols import NAMES, symbol
-from .writing import CDS, FITS, OGIP, VOUNITS
 
 # No label has more bytes of words: word_cases.py has one with as many.
 ROOM = 1476
 
-# P1 to P12 of document 01 without P3 and P11, which are refused; P12 has two labels
-SAMPLES = [(FITS, ''), (OGIP, ''), (CDS, ''), (VOUNITS, ''), (CDS, 'kg/m.s'), (VOUNITS, 'kg/(m.s)'), (FITS, 'Pa'), (VOUNITS, 'furlong'),
-           (CDS, 'pixel'), (OGIP, 'ph'), (CDS, 'da'), (VOUNITS, "'m'"), (CDS, 'km/h'), (CDS, 'm/s')]
+# P1 to P12 of document 01 without P3 and P11, which are refused; P1 is in every notation, and P12 has two labels
+SAMPLES = [(notation, '') for notation in NOTATIONS]
+SAMPLES += [(CDS, 'kg/m.s'), (VOUNITS, 'kg/(m.s)'), (FITS, 'Pa'), (VOUNITS, 'furlong'), (CDS, 'pixel'), (OGIP, 'ph'), (CDS, 'da'), (VOUNITS, "'m'"),
+            (CDS, 'km/h'), (CDS, 'm/s')]
 TEXTBOOKS = [
     (FITS, 'm s-1'), (FITS, 'kg m-3'), (FITS, 'J kg-1 K-1'), (FITS, 'N m2 kg-2'), (FITS, 'W m-2 Hz-1'), (FITS, '10**(-26) W m-2 Hz-1'),
     (FITS, 'Jy/beam'), (FITS, 'km s-1 Mpc-1'), (FITS, 'V Hz(-1/2)'), (FITS, 'adu pix-1'),
@@ -18,6 +19,7 @@ TEXTBOOKS = [
     (CDS, 'g.cm/s2'), (CDS, 'mW/m2/sr'),
     (VOUNITS, 'J.s'), (VOUNITS, 'W.m**-2.K**-4'), (VOUNITS, '10**-7N/A**2'), (VOUNITS, '1000byte/s'), (VOUNITS, 'mol/m**3'),
     (VOUNITS, 'lm/W'), (VOUNITS, "furlong/'fortnight'"), (VOUNITS, 'V/(Hz**(1/2))'), (VOUNITS, '100Angstrom.s**(-1.5)'),
+    (STARLINK, 'J/(m**2*Ang*count)'), (STARLINK, 'erg/(s*cm**2*Ang)'), (STARLINK, 'km*s**(-1)'), (STARLINK, 'V/Hz**(1/2)'), (STARLINK, 'nAng'),
 ]
 
 
@@ -29,7 +31,7 @@ def prefixes():
 
 def units():
     """Every unit by each of its names, each name in the first notation that knows it."""
-    return [(min(notation for notation in NAMES if name in NAMES[notation]), name) for name in UNIT_WORD]
+    return [(min(notation for notation in NOTATIONS if name in NAMES[notation]), name) for name in UNIT_WORD]
 
 
 def labels():

@@ -1,6 +1,8 @@
-"""Prefixes, known units and their sizes: document 01, "Symbols" and "Sizes and conversion"."""
+"""Prefixes, known units and their sizes: document 01, "Symbols" and "Sizes and conversion", with the names of document 02, W3."""
 import re
 from fractions import Fraction
+
+from .notations import CDS, FITS, NOTATIONS, OGIP, STARLINK, VOUNITS
 
 PREFIXES = dict(da=1, h=2, k=3, M=6, G=9, T=12, P=15, E=18, Z=21, Y=24, d=-1, c=-2, m=-3, u=-6, n=-9, p=-12, f=-15, a=-18, z=-21, y=-24)
 ALL = 'm g s A K mol cd rad sr Hz N Pa J W C V S F Wb T H lm lx min h d yr deg arcmin arcsec AU pc eV Jy barn mag byte'.split()
@@ -8,12 +10,18 @@ NOT_OGIP = 'a mas pix ct Ry solMass solLum solRad D Sun bit Ohm'.split()
 NOT_CDS = 'erg G lyr count photon pixel chan bin voxel'.split()
 FITS_AND_VOUNITS = 'u ph R adu beam Angstrom'.split()
 NAMES = {
-    1: set(ALL + NOT_OGIP + NOT_CDS + FITS_AND_VOUNITS),
-    2: set(ALL + NOT_CDS + ['angstrom', 'ohm']),
-    3: set(ALL + NOT_OGIP + ['%']),
-    4: set(ALL + NOT_OGIP + NOT_CDS + FITS_AND_VOUNITS + ['angstrom']),
+    FITS: set(ALL + NOT_OGIP + NOT_CDS + FITS_AND_VOUNITS),
+    OGIP: set(ALL + NOT_CDS + ['angstrom', 'ohm']),
+    CDS: set(ALL + NOT_OGIP + ['%']),
+    VOUNITS: set(ALL + NOT_OGIP + NOT_CDS + FITS_AND_VOUNITS + ['angstrom']),
 }
-SHOWN = {'a': 'yr', 'pix': 'pixel', 'ph': 'photon', 'ct': 'count', 'Ohm': 'ohm', 'Angstrom': 'angstrom'}
+# "Known symbols are OGIP's, with Ang in place of angstrom"
+NAMES[STARLINK] = NAMES[OGIP] - {'angstrom'} | {'Ang'}
+assert tuple(NAMES) == NOTATIONS
+
+# "One unit under two names", and "Ang is a third name of that unit": the first is the one that is shown
+SEVERAL_NAMES = [names.split() for names in ('yr a', 'pixel pix', 'photon ph', 'count ct', 'ohm Ohm', 'angstrom Angstrom Ang')]
+SHOWN = {other: first for first, *others in SEVERAL_NAMES for other in others}
 WITH_PREFIX = set(ALL[:23]) | {'ohm', 'yr', 'pc', 'eV', 'Jy', 'bit', 'byte'}
 
 
@@ -34,7 +42,7 @@ def symbol(notation, spelling):
 
 
 def is_lawful(notation, name, prefix):
-    return not prefix or name in WITH_PREFIX or (name == 'arcsec' and notation in (3, 4))
+    return not prefix or name in WITH_PREFIX or (name == 'arcsec' and notation in (CDS, VOUNITS))
 
 
 # SIZES: numbers and powers of bases; every other unit is a base of its own

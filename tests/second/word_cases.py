@@ -2,14 +2,15 @@
 from fractions import Fraction
 from random import Random
 
-from . import decimal_cases, rewrite_cases, spoken
+from . import decimal_cases, rewrite_cases, spoken, starlink_cases
 from .labels import LETTERS, PREFIX_NAMES, label
+from .notations import CDS, FITS, NO_NOTATIONS, NOTATIONS, OGIP, STARLINK, VOUNITS
 from .reading import read
-from .rewrite_cases import JOIN, NO_NOTATIONS, NOTATIONS, written
+from .rewrite_cases import written
 from .speaking import RESERVED, WORDS, speak
 from .spoken import ROOM
 from .symbols import spellings
-from .writing import CDS, FITS, OGIP, VOUNITS
+from .writing import JOIN
 
 LARGE = 4096
 DENOMINATORS = [q for q in range(1, 61) if 60 % q == 0]
@@ -42,9 +43,11 @@ def named():
 
 
 def longest():
-    """No label has longer words than the first, which has 255 bytes and 1,476 of words; then a letter less and a letter more."""
+    """No label has longer words than the first, which has 255 bytes and 1,476 of words; then a letter less and a letter more. The others are
+    Starlink's, which has no factor and one slash."""
     labels = [b'10-9' + b'/hAU' * 31 + b'/h' + b'x' * letters for letters in (125, 124, 126)]
     assert [len(data) for data in labels] == [255, 254, 256] and length(CDS, labels[0]) == ROOM
+    labels += [b'h' + b'x' * letters + b'/(' + b'*'.join([b'hAU'] * 31) + b')' for letters in (128, 127, 129)]
     sizes = (0, 1, 255, 256, ROOM - 3, ROOM - 2, ROOM - 1, ROOM, ROOM + 1, LARGE)
     return [(notation, data, size) for notation in NOTATIONS for data in labels for size in sizes]
 
@@ -68,6 +71,7 @@ def numerals():
         OGIP: 'm**1 m**+1 m**(1) m**(2/2) m**(2/4) m**(-15/60) m**(1.50) m**(98.95) /m**-1 1m 10m 100m 1/m 1000000m 10**2m 10**(-3)m',
         CDS: 'm1 m+1 /m-1 /m1 /m+1 1m 10m 100m 1/m 10+1m 10-1m 10**-2m 10**+2m m9999 m10000 m/(s-1/g) 10+99m 10-100m',
         VOUNITS: 'm**1 m**+1 m**(1) m**(2/2) m**(2/4) m**(-15/60) m**(1.50) m**(98.95) s/m**-1 1m 10m 100m 10**2m 10**(-3)m m/(s/g)',
+        STARLINK: 'm**1 m**+1 m**(1) m**(2/2) m**(2/4) m**(-15/60) m**(1.50) m**(98.95) s/m**-1 s/(m**-1*g**(-1/2)) 1m 1*m 10**2*m m**9999',
     }
     found = [(notation, text.encode('ascii')) for notation in NOTATIONS for text in texts[notation].split()]
     return whole(found + [(notation, b'1' + b'0' * zeros + b'm') for notation in (OGIP, CDS, VOUNITS) for zeros in (98, 99, 100)])
@@ -78,9 +82,15 @@ def decimals():
     return whole(decimal_cases.own() + decimal_cases.foreign()) + buffers(decimal_cases.halves())
 
 
+def starlink():
+    """Starlink's edges, labels with a factor or with each name of the angstrom, and a few with each buffer."""
+    found = starlink_cases.labels() + starlink_cases.rewritten()
+    return whole(found) + buffers((STARLINK, data) for data in (b'J/(m**2*Ang*count)', b'Ang', b'kAng**(-1/2)', b'(m*(s*q))/kg'))
+
+
 def limits():
     """255 bytes, 32 terms and 8 brackets, those of groups and of powers alike, and one below and above each."""
-    power = {FITS: b'm(2)', OGIP: b'm**(2)', CDS: b'm2', VOUNITS: b'm**(2)'}
+    power = {FITS: b'm(2)', OGIP: b'm**(2)', CDS: b'm2', VOUNITS: b'm**(2)', STARLINK: b'm**(2)'}
     found = []
     for notation in NOTATIONS:
         found += [(notation, letter * count) for letter in (b'q', b'm') for count in (254, 255, 256)]
@@ -127,7 +137,7 @@ def random_case(random):
 
 def cases(seed, count, everything):
     random = Random(seed)
-    found = buffers(named()) + longest() + powers() + numerals() + decimals() + limits() + unknown() + alike() + refused()
+    found = buffers(named()) + longest() + powers() + numerals() + decimals() + starlink() + limits() + unknown() + alike() + refused()
     found += every_symbol() if everything else []
     return found + [random_case(random) for _ in range(count)]
 

@@ -1,17 +1,21 @@
-"""Rewriting a label in a notation: document 01, "Writing", and refusals 12 to 14."""
+"""Rewriting a label in a notation: document 01, "Writing", document 02, "The Starlink notation", and refusals 12 to 14."""
+from .notations import CDS, FITS, NOTATIONS, OGIP, STARLINK, VOUNITS
 from .reading import read, unit
-from .symbols import NAMES, SHOWN, symbol
+from .symbols import NAMES, SEVERAL_NAMES, SHOWN, symbol
 
-FITS, OGIP, CDS, VOUNITS = 1, 2, 3, 4
-
-# "One unit under two names"
-OTHER_NAME = {**SHOWN, **{second: first for first, second in SHOWN.items()}}
+# "Joined by a space (FITS, OGIP) or a point." "Writing joins by a star".
+JOIN = {FITS: ' ', OGIP: ' ', CDS: '.', VOUNITS: '.', STARLINK: '*'}
+NAMES_OF = {name: names for names in SEVERAL_NAMES for name in names}
 
 
 def written_factor(target, k):
-    """"k not 0: `10**k` and a space (FITS, OGIP), `10**k` (VOUnits), `10+3` or `10-3` style (CDS)". "No plus but in the CDS factor"."""
+    """"k not 0: `10**k` and a space (FITS, OGIP), `10**k` (VOUnits), `10+3` or `10-3` style (CDS)". "No plus but in the CDS factor".
+
+    None where there is no form: "a label with k not 0 can't be written in notation 5"."""
     if k == 0:
         return ''
+    if target == STARLINK:
+        return None
     if target == CDS:
         return '10%+d' % k
     return '10**%d' % k + (' ' if target in (FITS, OGIP) else '')
@@ -22,25 +26,23 @@ def written_exponent(target, exponent):
     # "Exponent 1 is omitted."
     if exponent == 1:
         return ''
-    # "Whole: m-2 (FITS, CDS), `m**-2` (VOUnits), `m**2` and `m**(-2)` (OGIP)."
+    # "Whole: m-2 (FITS, CDS), `m**-2` (VOUnits), `m**2` and `m**(-2)` (OGIP)." Starlink: "with exponents as in OGIP".
     if exponent.denominator == 1:
         if target in (FITS, CDS):
             return '%d' % exponent
-        if target == OGIP and exponent < 0:
+        if target in (OGIP, STARLINK) and exponent < 0:
             return '**(%d)' % exponent
         return '**%d' % exponent
     # "Fraction p/q: m(p/q) (FITS), `m**(p/q)` (OGIP, VOUnits), none in CDS."
     fraction = '(%d/%d)' % (exponent.numerator, exponent.denominator)
-    return {FITS: fraction, OGIP: '**' + fraction, CDS: None, VOUNITS: '**' + fraction}[target]
+    return {FITS: fraction, CDS: None}.get(target, '**' + fraction)
 
 
 def written_known(target, term):
-    # "A known unit keeps its spelling if the target knows it, else takes its other name there."
-    name = term.name
-    if name not in NAMES[target]:
-        name = OTHER_NAME.get(name)
-        if name not in NAMES[target]:
-            return None
+    # "A known unit keeps its spelling if the target knows it, else takes its other name there": of three names the first that it knows.
+    name = next((name for name in [term.name] + NAMES_OF.get(term.name, []) if name in NAMES[target]), None)
+    if name is None:
+        return None
     # "Prefix and name must read in the target as the same prefix and unit."
     prefix, known, there = symbol(target, term.prefix + name)
     same = known and prefix == term.prefix and SHOWN.get(there, there) == unit(term)
@@ -67,14 +69,12 @@ def rewrite(source, data, target, size):
     reading = read(source, data)
     if reading.number:
         return reading.number, b''
-    if target not in NAMES:
+    if target not in NOTATIONS:
         return 1, b''
-    terms = [written_term(target, term) for term in reading.terms]
-    if None in terms:
+    factor, terms = written_factor(target, reading.k), [written_term(target, term) for term in reading.terms]
+    if factor is None or None in terms:
         return 12, b''
-    # "Joined by a space (FITS, OGIP) or a point."
-    joined = (' ' if target in (FITS, OGIP) else '.').join(terms)
-    result = (written_factor(target, reading.k) + joined).encode('ascii')
+    result = (factor + JOIN[target].join(terms)).encode('ascii')
     if len(result) > 255:
         return 13, b''
     if size < len(result):

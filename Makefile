@@ -136,8 +136,8 @@ build/labels.roff: examples/labels.c
 	@mkdir -p build
 	sed 's/\\/\\e/g; s/-/\\-/g; s/'\''/\\(aq/g; s/^\./\\\&./' $< >$@
 
-# The line program is proved and built by rt check.
-build/label-lines: crates.txt $(shell find crates -name '*.rt' -o -name '*.antt')
+# The line program is proved and built by rt check; after the library, since two checks at once would write the same files.
+build/label-lines: crates.txt $(shell find crates -name '*.rt' -o -name '*.antt') | build/libface.a
 	$(call needs,rt)
 	@mkdir -p build
 	@echo 'checking the proofs of the line program and building it: some minutes'

@@ -87,7 +87,6 @@ static void suggest_by_habit(struct advice *a) {
 
 /* What other notations read, where they know every unit, in the library's own rewriting. */
 static void suggest_by_others(struct advice *a, bool as_it_stands) {
-    const char *name = notation_words[a->notation].name;
     struct text names = {0};
     for (uint32_t n = 1; n <= NOTATIONS; n++) {
         struct text said = {0}, result = {0};
@@ -102,7 +101,7 @@ static void suggest_by_others(struct advice *a, bool as_it_stands) {
             else
                 suggest(a, ANOTHER, n, result.s);
         } else if (!strstr(a->reasons.s, "unknown in")) {
-            give_reason(&a->reasons, "As %s this is %s, which %s does not have.", notation_words[n].name, said.s, name);
+            give_reason(&a->reasons, "As %s this is %s, which %s does not have.", notation_words[n].name, said.s, notation_words[a->notation].name);
         }
     }
     if (names.length && as_it_stands)
@@ -122,7 +121,7 @@ void advise(struct advice *a, uint32_t notation, const char *label, uint32_t num
     if (strspn(a->plain.s, "- ") == a->plain.length) {
         give_reason(&a->reasons, "Where there is no unit, the label is empty.");
         suggest(a, SAME, 0, "");
-    } else if (!blame_meaning(a->plain.s, &a->reasons)) {
+    } else if (!blame_meaning(notation, a->plain.s, &a->reasons)) {
         suggest_by_habit(a);
         suggest_by_others(a, strcmp(label, a->plain.s) == 0);
         if (a->count == 0)

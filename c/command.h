@@ -52,7 +52,7 @@ bool put_terms(uint32_t notation, const char *label, const uint8_t *record, stru
 bool respell(uint32_t notation, const char *label, bool mega, struct text *result);
 /* faults.c: explanations where no label can be suggested */
 __attribute__((format(printf, 2, 3))) void give_reason(struct text *reasons, const char *format, ...); /* a line, once */
-bool blame_meaning(const char *label, struct text *reasons); /* functions, square brackets and other numbers; whether there are any */
+bool blame_meaning(uint32_t notation, const char *label, struct text *reasons); /* functions, square brackets, other numbers; whether there are any */
 void blame_forms(uint32_t notation, const char *label, struct text *reasons);
 /* advice.c: what is wrong with a label, and what to write instead. A suggestion is accepted and sound in the notation. */
 enum { MAX_SUGGESTIONS = 6 };

@@ -29,15 +29,17 @@ static int print_result(uint32_t number, const struct text *result, uint32_t not
 
 int speak_label(uint32_t notation, const char *label) {
     struct text words = {0};
-    uint32_t number = ask_words(notation, label, &words);
-    return print_result(number, &words, notation, label);
+    return print_result(ask_words(notation, label, &words), &words, notation, label);
 }
 
 int rewrite_label(uint32_t source, const char *label, uint32_t target) {
     struct text result = {0};
     struct reading r = ask(source, label);
     uint32_t number = ask_rewriting(source, label, target, &result);
-    int status = print_result(number, &result, number < THALINGUZE_UNKNOWN_UNIT ? source : target, label);
+    int k = thalinguze_k(r.record), status = print_result(number, &result, number < THALINGUZE_UNKNOWN_UNIT ? source : target, label);
+    if (number == THALINGUZE_NO_FORM && k && !accepts(target, "10**3m"))
+        fprintf(stderr, "The power of ten is %s%d. In %s %s.\n", k < 0 ? "minus " : "", k < 0 ? -k : k, notation_words[target].name,
+                notation_words[target].factors);
     for (unsigned i = 0; i < thalinguze_count(r.record) && number == THALINGUZE_NO_FORM; i++)
         blame_term(source, label, r.record, i, target);
     return status;
@@ -78,17 +80,15 @@ int convert_labels(uint32_t first, const char *label, uint32_t second, const cha
     return 0;
 }
 
-static void list_name(uint32_t notation, const char *name, int unit) {
-    struct text kilo = {0};
-    put(&kilo, "%s%s", prefix_words[THALINGUZE_PREFIX_KILO].symbol, name);
-    bool prefixes = is_sound(notation, kilo.s) && thalinguze_term_unit(ask(notation, kilo.s).record, 0) == unit;
-    if (is_sound(notation, name) && thalinguze_term_unit(ask(notation, name).record, 0) == unit)
-        printf("%s: %s, %s\n", name, unit_words[unit][WORD], prefixes ? "takes prefixes" : "no prefixes");
-}
-
 int list_units(uint32_t notation) {
     for (int unit = 1; unit <= THALINGUZE_UNITS; unit++)
-        for (int i = SYMBOL; i < WORDS && unit_words[unit][i]; i++)
-            list_name(notation, unit_words[unit][i], unit);
+        for (int i = SYMBOL; i < WORDS && unit_words[unit][i]; i++) {
+            const char *name = unit_words[unit][i];
+            struct text kilo = {0};
+            put(&kilo, "%s%s", prefix_words[THALINGUZE_PREFIX_KILO].symbol, name);
+            bool prefixes = is_sound(notation, kilo.s) && thalinguze_term_unit(ask(notation, kilo.s).record, 0) == unit;
+            if (is_sound(notation, name) && thalinguze_term_unit(ask(notation, name).record, 0) == unit)
+                printf("%s: %s, %s\n", name, unit_words[unit][WORD], prefixes ? "takes prefixes" : "no prefixes");
+        }
     return 0;
 }

@@ -12,7 +12,7 @@ void give_reason(struct text *reasons, const char *format, ...) {
         put(reasons, "%s\n", made);
 }
 
-bool blame_meaning(const char *label, struct text *reasons) {
+bool blame_meaning(uint32_t notation, const char *label, struct text *reasons) {
     int k = 0;
     size_t before = reasons->length, number = leading_number(label, &k);
     for (unsigned f = 0; f < COUNT(function_words); f++) {
@@ -25,6 +25,8 @@ bool blame_meaning(const char *label, struct text *reasons) {
         give_reason(reasons, "Labels have no square brackets. For a logarithm write the plain unit, and say log outside the label.");
     if (number && label[number] == 0)
         give_reason(reasons, "A number alone is no label. Where there is no unit, the label is empty.");
+    else if (k && !accepts(notation, "10**3m"))
+        give_reason(reasons, "In %s %s.", notation_words[notation].name, notation_words[notation].factors);
     else if (k == INT_MAX)
         give_reason(reasons, "The only numbers before a unit are powers of ten. Take this one out and multiply the values by it.");
     return reasons->length > before;

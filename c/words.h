@@ -6,17 +6,15 @@
 
 #define COUNT(table) (sizeof(table) / sizeof((table)[0]))
 /* How many notations there are; the first has the number 1. */
-enum { NOTATIONS = THALINGUZE_VOUNITS };
+enum { NOTATIONS = THALINGUZE_STARLINK };
 
-struct notation_word {
+static const struct notation_word {
     const char *argument; /* as the command takes it, beside the name */
     const char *name;     /* as a person says it */
     const char *signs;    /* that its labels have, besides letters and digits */
     const char *joints, *spaces, *powers, *factors, *slashes; /* its rules, each to follow "In FITS", or NULL */
     const char *examples[3];
-};
-
-static const struct notation_word notation_words[NOTATIONS + 1] = {
+} notation_words[NOTATIONS + 1] = {
     [THALINGUZE_FITS] = {"fits", "FITS", "()/*.+-^ ", "one space, a star or a point joins units",
         "one space may join units, and there are no other spaces", "an exponent that is not whole is in brackets",
         "a power of ten is 10, two stars and its exponent",
@@ -31,22 +29,23 @@ static const struct notation_word notation_words[NOTATIONS + 1] = {
     [THALINGUZE_VOUNITS] = {"vou", "VOUnits", "()/*.+-'", "a point joins units", "there are no spaces",
         "an exponent comes after two stars, in brackets if it is not whole", "a power of ten is 10, two stars and its exponent, without spaces",
         "one slash is allowed, after a unit, and one unit or group after it", {"kg.m**2/s**3", "10**3erg/(s.cm**2)", "Hz**(1/2)"}},
+    [THALINGUZE_STARLINK] = {"starlink", "Starlink", "()/*.+-", "a star joins units", "there are no spaces",
+        "an exponent comes after two stars, in brackets if it is not whole",
+        "no number comes before a unit; take it out and multiply the values by it",
+        "one slash is allowed, after a unit and outside groups, and one unit or group after it", {"kg*m**2/s**3", "erg/(s*cm**2)", "Hz**(1/2)"}},
 };
-
-struct prefix_word {
+enum { PREFIXES = THALINGUZE_PREFIX_YOCTO };
+static const struct prefix_word {
     const char *symbol, *word;
     int power; /* of ten */
-};
-
-enum { PREFIXES = THALINGUZE_PREFIX_YOCTO };
-static const struct prefix_word prefix_words[PREFIXES + 1] = {
+} prefix_words[PREFIXES + 1] = {
     {"", "", 0}, {"da", "deca", 1}, {"h", "hecto", 2}, {"k", "kilo", 3}, {"M", "mega", 6}, {"G", "giga", 9},
     {"T", "tera", 12}, {"P", "peta", 15}, {"E", "exa", 18}, {"Z", "zetta", 21}, {"Y", "yotta", 24},
     {"d", "deci", -1}, {"c", "centi", -2}, {"m", "milli", -3}, {"u", "micro", -6}, {"n", "nano", -9},
     {"p", "pico", -12}, {"f", "femto", -15}, {"a", "atto", -18}, {"z", "zepto", -21}, {"y", "yocto", -24},
 };
 /* A unit as a person says it, and from SYMBOL on its names in labels. */
-enum { WORD, SYMBOL, OTHER, WORDS };
+enum { WORD, SYMBOL, OTHER, THIRD, WORDS };
 static const char *const unit_words[THALINGUZE_UNITS + 1][WORDS] = {
     {"unknown", "?"}, {"metre", "m"}, {"gram", "g"}, {"second", "s"}, {"ampere", "A"}, {"kelvin", "K"}, {"mole", "mol"}, {"candela", "cd"},
     {"radian", "rad"}, {"steradian", "sr"}, {"hertz", "Hz"}, {"newton", "N"}, {"pascal", "Pa"}, {"joule", "J"}, {"watt", "W"},
@@ -57,7 +56,7 @@ static const char *const unit_words[THALINGUZE_UNITS + 1][WORDS] = {
     {"rydberg", "Ry"}, {"solar mass", "solMass"}, {"solar luminosity", "solLum"}, {"solar radius", "solRad"}, {"debye", "D"},
     {"Sun", "Sun"}, {"bit", "bit"}, {"ohm", "ohm", "Ohm"}, {"erg", "erg"}, {"gauss", "G"}, {"light year", "lyr"},
     {"photon", "photon", "ph"}, {"channel", "chan"}, {"bin", "bin"}, {"voxel", "voxel"}, {"atomic mass unit", "u"}, {"rayleigh", "R"},
-    {"analogue-to-digital unit", "adu"}, {"beam", "beam"}, {"angstrom", "angstrom", "Angstrom"}, {"percent", "%"},
+    {"analogue-to-digital unit", "adu"}, {"beam", "beam"}, {"angstrom", "angstrom", "Angstrom", "Ang"}, {"percent", "%"},
 };
 /* The bases, each a unit of its own, and the primes of a scale. */
 static const char *const base_symbols[THALINGUZE_BASES] = {
@@ -68,7 +67,7 @@ static const int prime_words[THALINGUZE_PRIMES] = {2, 3, 5, 487};
 /* Spellings that no notation has, and a usual one of the same unit. Capitals, full names and a plural s are seen to in spelling.c. */
 static const char *const spelling_words[][2] = {
     {"sec", "s"}, {"hr", "h"}, {"meter", "m"}, {"micron", "um"}, {"cts", "count"}, {"cnt", "count"}, {"px", "pixel"},
-    {"phot", "photon"}, {"ly", "lyr"}, {"Ang", "angstrom"}, {"Msun", "solMass"}, {"Lsun", "solLum"}, {"Rsun", "solRad"}, {"B", "byte"},
+    {"phot", "photon"}, {"ly", "lyr"}, {"Msun", "solMass"}, {"Lsun", "solLum"}, {"Rsun", "solRad"}, {"B", "byte"},
     {"asec", "arcsec"}, {"amin", "arcmin"}, {"bm", "beam"}, {"amu", "u"}, {"ster", "sr"},
 };
 /* Names that people put before a bracket for a function. */

@@ -8,7 +8,7 @@ import struct
 import sys
 
 # Numbers of thalinguze.h, which says what they mean.
-FITS, OGIP, CDS, VOUNITS = 1, 2, 3, 4
+FITS, OGIP, CDS, VOUNITS, STARLINK = 1, 2, 3, 4, 5
 FIELDS, FIELD_COUNT, FIELD_TERMS, TERM_FIELDS, TERM_UNIT, TERM_EXPONENT = 266, 5, 6, 7, 1, 2
 CONVERSION_FIELDS = 4
 MAX_LABEL_SIZE = 255

@@ -1,7 +1,7 @@
 /*
  * thalinguze.h: physics unit labels, read, rewritten in another notation, converted and spoken.
  *
- * One call reads a label such as "kg/m.s" under one of four notations and writes what it means into a record of fixed layout:
+ * One call reads a label such as "kg/m.s" under one of five notations and writes what it means into a record of fixed layout:
  *
  *     #include <stdio.h>
  *     #include <string.h>
@@ -40,7 +40,7 @@ extern "C" {
 
 /* The version. The number is written in these three lines and nowhere else. */
 #define THALINGUZE_VERSION_MAJOR 0
-#define THALINGUZE_VERSION_MINOR 11
+#define THALINGUZE_VERSION_MINOR 12
 #define THALINGUZE_VERSION_PATCH 0
 
 /* The version as one number, 10203 for 1.2.3, and as text, "1.2.3". */
@@ -60,7 +60,8 @@ enum {
     THALINGUZE_FITS = 1,
     THALINGUZE_OGIP = 2,
     THALINGUZE_CDS = 3,
-    THALINGUZE_VOUNITS = 4
+    THALINGUZE_VOUNITS = 4,
+    THALINGUZE_STARLINK = 5
 };
 
 /* What the calls return: 0, or the first of these that applies. Reading gives 1 to 7, converting 1 to 11, rewriting 1 to 7 and 12 to 14,
@@ -78,7 +79,7 @@ enum {
     THALINGUZE_DIMENSIONS_DIFFER = 9, /* converting: the labels have different dimensions */
     THALINGUZE_NO_FRACTION = 10,      /* converting: the factor is not a fraction */
     THALINGUZE_FACTOR_OUT_OF_BOUNDS = 11, /* converting: the numerator, the denominator or k breaks its bound */
-    THALINGUZE_NO_FORM = 12,          /* rewriting: a term or an exponent has no form in the target */
+    THALINGUZE_NO_FORM = 12,          /* rewriting: a term, an exponent or the power of ten has no form in the target */
     THALINGUZE_RESULT_TOO_LONG = 13,  /* rewriting: the result is over THALINGUZE_MAX_LABEL_SIZE bytes */
     THALINGUZE_BUFFER_TOO_SHORT = 14  /* rewriting and words: the lent buffer is shorter than the result */
 };
@@ -269,7 +270,7 @@ enum {
 /*
  * Reads a label in a notation.
  *
- * notation     one of THALINGUZE_FITS, _OGIP, _CDS, _VOUNITS. Any other number gets an answer too: it is refused.
+ * notation     one of THALINGUZE_FITS, _OGIP, _CDS, _VOUNITS, _STARLINK. Any other number gets an answer too: it is refused.
  * label        the label's bytes, without a terminating 0; any bytes. They are only read.
  * label_size   how many bytes the label has; 0 is the empty label, which every notation accepts, with no terms.
  * record       where the record is written.

@@ -172,6 +172,9 @@ static const struct {
     {1, "\xc2\xb0" "C", 0, 0}, {1, "10\xc2\xb3 m", "10**3 m", 0}, {2, "\xc3\x85", "angstrom", 0}, {3, "\xc3\x85", 0, 0}, {1, "counts/s/pixel", "count/(s pixel)", 0},
     {1, "KM/S", "km/s", 0}, {1, "counts", "count", 0}, {1, "sec", "s", 0}, {1, "DN", 0, 0}, {2, "KM/S/MPC", "km/s/Mpc", "km/s/mpc"}, {2, "ph", "photon", 0},
     {3, "m.pixel", "m.pix", 0}, {1, "m", 0, 0}, {1, "(kg/m s)", "kg m-1 s", "kg m-1 s-1"}, {1, "%", 0, 0}, {1, "((((((((kg/m.s))))))))", "kg m-1 s", 0}, {2, "10^10003 m", 0, 0}, {1, "ma1(1/2)", 0, 0}, {1, "m1**+9", 0, 0}, {1, " 10*k1m", 0, 0}, {3, "100**1%", 0, 0}, {2, "1e10000 m", 0, 0}, {2, "10^99 m", "10**99 m", 0}, {1, "\xff", 0, 0},
+    {5, "J/m**2/Ang", "J/(m**2*Ang)", 0}, {5, "kg m2 s-1", "kg*m**2*s**(-1)", 0}, {5, "1/s", "s**(-1)", 0}, {5, "/s", "s**(-1)", 0}, {5, "10**3*m", 0, 0},
+    {5, "10**3 erg/s", 0, 0}, {5, "25 m", 0, 0}, {5, "1 m", "m", 0}, {5, "angstrom", "Ang", 0}, {5, "\xc3\x85", "Ang", 0}, {5, "Hz^0.5", "Hz**(1/2)", 0},
+    {5, "kg/m*s", "kg*m**(-1)*s", "kg/(m*s)"}, {1, "Ang", "Angstrom", 0}, {2, "Ang", "angstrom", 0}, {3, "Ang", 0, 0}, {4, "Ang", "angstrom", 0},
 };
 
 static bool same(const char *a, const char *b) {
@@ -199,15 +202,15 @@ static void walk_words(void) {
         if (!is_sound(THALINGUZE_FITS, spelling_words[i][1]) && !is_sound(THALINGUZE_OGIP, spelling_words[i][1]))
             fail("a usual spelling", 1, spelling_words[i][0], spelling_words[i][1]);
     for (int p = 0; p <= PREFIXES; p++)
-        for (int u = 1; u <= THALINGUZE_UNITS * 2; u++) {
-            const char *const *w = unit_words[(u + 1) / 2];
-            struct text t = {0};
-            put(&t, "%s%s", prefix_words[p].symbol, u % 2 || !w[OTHER] ? w[SYMBOL] : w[OTHER]);
-            for (uint32_t n = 1; n <= NOTATIONS; n++)
-                for (uint32_t m = 1; m < n; m++)
-                    if (is_sound(n, t.s) && is_sound(m, t.s) && !same_terms(ask(n, t.s).record, ask(m, t.s).record, true))
-                        fail("two units", n, t.s, notation_words[m].name);
-        }
+        for (int u = 1; u <= THALINGUZE_UNITS; u++)
+            for (int i = SYMBOL; i < WORDS && unit_words[u][i]; i++) {
+                struct text t = {0};
+                put(&t, "%s%s", prefix_words[p].symbol, unit_words[u][i]);
+                for (uint32_t n = 1; n <= NOTATIONS; n++)
+                    for (uint32_t m = 1; m < n; m++)
+                        if (is_sound(n, t.s) && is_sound(m, t.s) && !same_terms(ask(n, t.s).record, ask(m, t.s).record, true))
+                            fail("two units", n, t.s, notation_words[m].name);
+            }
 }
 
 static void walk_file(const char *name) {

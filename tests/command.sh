@@ -87,10 +87,10 @@ has 0 vou "'furlong'" "Accepted, but 1 unit is unknown: 'furlong'." 'It reads: u
 has 0 ogip erg/kmin 'Accepted, but with an unlawful prefix in OGIP: kmin.' 'Not recommended: erg.'
 has 0 fits KM/S 'Did you mean: km/s'
 has 0 ogip KM/S/MPC 'Did you mean: km/s/Mpc' 'Did you mean: km/s/mpc'
-for case in 'fits:kg s/m' 'ogip:kg/m s' 'cds:kg/m.s' 'vou:kg.s/m'; do
+for case in 'fits:kg s/m' 'ogip:kg/m s' 'cds:kg/m.s' 'vou:kg.s/m' 'starlink:kg*s/m'; do
     has 0 "${case%%:*}" "${case#*:}" 'Above the line: kilo gram, second.' 'Below the line: metre.'
 done
-for case in 'fits:kg/(m s)' 'ogip:kg/(m s)' 'cds:kg/(m.s)' 'vou:kg/(m.s)'; do
+for case in 'fits:kg/(m s)' 'ogip:kg/(m s)' 'cds:kg/(m.s)' 'vou:kg/(m.s)' 'STARLINK:kg/(m*s)'; do
     has 0 "${case%%:*}" "${case#*:}" 'Above the line: kilo gram.' 'Below the line: metre, second.'
 done
 
@@ -125,6 +125,27 @@ Refused, number 3: the label has signs that are not plain ASCII.
 No label has a superscript two.
 Write: m/s2
 END
+says 0 out read Starlink 'J/(m**2*Ang*count)' <<'END'
+Accepted: joule metre to the minus 2 angstrom to the minus 1 count to the minus 1.
+Above the line: joule.
+Below the line: metre to the 2, angstrom, count.
+Not recommended: Ang.
+Size: 10000000000000 grams per metre per second to the 2 per count.
+END
+says 1 out read starlink 'J/m**2/Ang/s' <<'END'
+Refused, number 4: the label does not follow the rules of Starlink.
+In Starlink one slash is allowed, after a unit and outside groups, and one unit or group after it.
+Write: J/(m**2*Ang*s)
+END
+says 1 out read starlink '10**3 erg/s' <<'END'
+Refused, number 4: the label does not follow the rules of Starlink.
+In Starlink no number comes before a unit; take it out and multiply the values by it.
+Labels of Starlink look like these: kg*m**2/s**3; erg/(s*cm**2); Hz**(1/2)
+END
+has 0 starlink Angstrom 'Accepted, but 1 unit is unknown: Angstrom.' 'Did you mean: Ang'
+has 0 starlink marcsec 'Accepted, but with an unlawful prefix in Starlink: marcsec.'
+has 0 fits Ang 'Accepted, but 1 unit is unknown: Ang.' 'Did you mean: Angstrom'
+has 1 starlink /s 'Write: s**(-1)'
 has 1 fits '°C' 'Degrees Celsius and Fahrenheit are no units here. The unit of temperature is the kelvin, K.'
 has 1 fits "$(printf 'm\302\240s')" 'No label has a non-breaking space.' 'Write: m s'
 has 1 fits "$(printf '\265m')" 'No label has a micro sign.' 'Write: um'
@@ -148,8 +169,8 @@ has 1 cds 20% 'The only numbers before a unit are powers of ten. Take this one o
 has 1 cds erg/s.Å 'The unit erg is unknown in CDS.'
 has 1 fits % 'As CDS this is percent, which FITS does not have.'
 has 1 ogip m2 'FITS and CDS accept the label as it stands.' 'Write: m**2'
-has 0 all kg/m.s 'Accepted in CDS. Refused in FITS, OGIP, VOUnits.' 'In CDS: Accepted: kilo gram metre to the minus 1 second.' 'In FITS: Refused, number 4: the label does not follow the rules of FITS.'
-has 1 ALL 'm,s' 'Accepted in none. Refused in FITS, OGIP, CDS, VOUnits.' 'In VOUnits: Refused, number 4: the label does not follow the rules of VOUnits.'
+has 0 all kg/m.s 'Accepted in CDS. Refused in FITS, OGIP, VOUnits, Starlink.' 'In CDS: Accepted: kilo gram metre to the minus 1 second.' 'In FITS: Refused, number 4: the label does not follow the rules of FITS.'
+has 1 ALL 'm,s' 'Accepted in none. Refused in FITS, OGIP, CDS, VOUnits, Starlink.' 'In VOUnits: Refused, number 4: the label does not follow the rules of VOUnits.'
 
 # WORDS
 
@@ -178,7 +199,7 @@ run words cds "$longest"
 # the stored words
 awk -F '\t' '
     function text(hex,    i, s) { for (i = 1; i < length(hex); i += 2) s = s sprintf("%c", (index("0123456789abcdef", substr(hex, i, 1)) - 1) * 16 + index("0123456789abcdef", substr(hex, i + 1, 1)) - 1); return s }
-    { split("fits ogip cds vou", names, " "); print names[$1] "\t" text($2) "\t" $3 }' vectors/words.tsv >"$directory/stored"
+    { split("fits ogip cds vou starlink", names, " "); print names[$1] "\t" text($2) "\t" $3 }' vectors/words.tsv >"$directory/stored"
 while IFS="$(printf '\t')" read -r notation label words; do
     run words "$notation" "$label"
     [ "$status" = 0 ] && [ "$(cat "$directory/out")" = "$words" ] || fail "words $notation $label: not $words"
@@ -199,6 +220,29 @@ says 0 out rewrite cds 10+3pix/h ogip <<'END'
 END
 says 0 out rewrite fits '' vou <<'END'
 
+END
+says 0 out rewrite starlink 'J/(m**2*Ang*count)' fits <<'END'
+J m-2 Angstrom-1 count-1
+END
+says 0 out rewrite starlink 'J/(m**2*Ang*count)' ogip <<'END'
+J m**(-2) angstrom**(-1) count**(-1)
+END
+says 0 out rewrite starlink 'J/(m**2*Ang*count)' vou <<'END'
+J.m**-2.angstrom**-1.count**-1
+END
+says 1 err rewrite starlink 'J/(m**2*Ang*count)' cds <<'END'
+Refused, number 12: the label has no form in CDS.
+Ang is angstrom in Starlink, but would be unit A n g end in CDS.
+END
+says 0 out rewrite ogip 'erg/s/cm**2/angstrom' starlink <<'END'
+erg*s**(-1)*cm**(-2)*Ang**(-1)
+END
+says 0 out rewrite ogip '1 m' starlink <<'END'
+m
+END
+says 1 err rewrite ogip '10**-17 erg/s' starlink <<'END'
+Refused, number 12: the label has no form in Starlink.
+The power of ten is minus 17. In Starlink no number comes before a unit; take it out and multiply the values by it.
 END
 says 1 err rewrite ogip ph vou <<'END'
 Refused, number 12: the label has no form in VOUnits.
@@ -267,7 +311,7 @@ FITS and CDS accept the label as it stands.
 Write: m**2
 END
 # every name that vectors/symbols.tsv has without a prefix as a known unit is listed, and nothing else, with its lawful prefixes
-for n in 1:fits 2:ogip 3:cds 4:vou; do
+for n in 1:fits 2:ogip 3:cds 4:vou 5:starlink; do
     run list "${n#*:}"
     [ "$status" = 0 ] || fail "list ${n#*:}: status $status"
     awk -v n="${n%%:*}" '
@@ -279,7 +323,7 @@ done
 run list fits
 grep -qx 'mol: mole, takes prefixes' "$directory/out" || fail 'list fits: no mole'
 # a unit is listed by the name that is spoken, in words of its own where that is two words in one
-for notation in fits ogip cds vou; do
+for notation in fits ogip cds vou starlink; do
     "$command" list "$notation" | sed 's/,.*//' >"$directory/units"
     while IFS= read -r line; do
         run words "$notation" "${line%%: *}"
@@ -345,7 +389,7 @@ vectors read 0 '1 6d' "1 6d $metre\n"
 vectors read 0 '1 6D\n01 6d\n' "1 6D $metre\n01 6d $metre\n"
 vectors read 0 '4 -\n' '4 - 0 k=0 yyy place=0 [] {} 0/0/0/0\n'
 vectors convert 0 '3 6b6d2f68 1 6d2f73\n01 - 4 -' '3 6b6d2f68 1 6d2f73 0 1 36 1\n01 - 4 - 0 1 1 0\n'
-for number in -1 -3 0 5 257 65537 4294967295 4294967296 4294967297 18446744073709551617 -4294967295 \
+for number in -1 -3 0 6 257 65537 4294967295 4294967296 4294967297 18446744073709551617 -4294967295 \
     340282366920938463463374607431768211457 99999999999999999999999999999999999999999999999999999999999999; do
     vectors read 0 "$number 6d\n" "$number 6d 1 $refused\n"
     vectors convert 0 "1 6d $number 6d\n" "1 6d $number 6d 1 0 1 0\n"

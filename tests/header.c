@@ -29,7 +29,7 @@ static const struct constant units[] = {
     UNIT("bit", BIT), UNIT("ohm", OHM), UNIT("Ohm", OHM), UNIT("erg", ERG), UNIT("G", GAUSS), UNIT("lyr", LIGHT_YEAR),
     UNIT("photon", PHOTON), UNIT("ph", PHOTON), UNIT("chan", CHANNEL), UNIT("bin", BIN), UNIT("voxel", VOXEL),
     UNIT("u", ATOMIC_MASS_UNIT), UNIT("R", RAYLEIGH), UNIT("adu", ANALOGUE_TO_DIGITAL_UNIT), UNIT("beam", BEAM),
-    UNIT("angstrom", ANGSTROM), UNIT("Angstrom", ANGSTROM), UNIT("%", PERCENT),
+    UNIT("angstrom", ANGSTROM), UNIT("Angstrom", ANGSTROM), UNIT("Ang", ANGSTROM), UNIT("%", PERCENT),
 };
 static const struct constant prefixes[] = {
     PREFIX("da", DECA), PREFIX("h", HECTO), PREFIX("k", KILO), PREFIX("M", MEGA), PREFIX("G", GIGA), PREFIX("T", TERA),
@@ -101,9 +101,10 @@ static void check_name(uint64_t key, unsigned code) {
     const char *const *words = unit_words[row >= 0 && row < THALINGUZE_UNITS ? row + 1 : 0];
     const struct constant *shown = find(units, UNIT_NAMES, key_of(words[SYMBOL]));
     check(shown && shown->code == row + 1 && strcmp(shown->name, c->name) == 0, "symbol of the command", c->name);
-    check(strcmp(c->symbol, words[SYMBOL]) == 0 || (words[OTHER] && strcmp(c->symbol, words[OTHER]) == 0), "name of the command", c->symbol);
+    check(strcmp(c->symbol, words[SYMBOL]) == 0 || (words[OTHER] && strcmp(c->symbol, words[OTHER]) == 0)
+              || (words[THIRD] && strcmp(c->symbol, words[THIRD]) == 0), "name of the command", c->symbol);
     check(same_word(c->name, words[WORD]), "word of the command", c->name);
-    for (uint32_t n = 1; n <= 4; n++) {
+    for (uint32_t n = 1; n <= NOTATIONS; n++) {
         uint32_t number = read_text(n, c->symbol, record);
         bool known = number == 0 && thalinguze_count(record) == 1 && thalinguze_term_prefix(record, 0) == THALINGUZE_PREFIX_NONE &&
                      thalinguze_term_unit(record, 0) == c->code;
@@ -120,7 +121,7 @@ static void check_prefix(int place, unsigned code, int power) {
         return;
     const struct prefix_word *word = &prefix_words[place + 1];
     check(strcmp(word->symbol, c->symbol) == 0 && same_word(c->name, word->word) && word->power == power, "prefix of the command", c->name);
-    for (uint32_t n = 1; n <= 4; n++) {
+    for (uint32_t n = 1; n <= NOTATIONS; n++) {
         uint8_t record[THALINGUZE_RECORD_SIZE];
         char label[8];
         snprintf(label, sizeof label, "%sm", c->symbol);
@@ -167,17 +168,20 @@ static void check_bases(void) {
 static void check_notations_and_refusals(void) {
     uint8_t record[THALINGUZE_RECORD_SIZE];
     static const char *const own[] = {"", "m^2", "m / s", "kg/m.s", "'m'"};
-    static const uint32_t constants[] = {0, THALINGUZE_FITS, THALINGUZE_OGIP, THALINGUZE_CDS, THALINGUZE_VOUNITS};
-    for (uint32_t n = 1; n <= 4; n++)
-        for (uint32_t label = 1; label <= 4; label++)
+    static const uint32_t constants[] = {0, THALINGUZE_FITS, THALINGUZE_OGIP, THALINGUZE_CDS, THALINGUZE_VOUNITS, THALINGUZE_STARLINK};
+    for (uint32_t n = 1; n <= NOTATIONS; n++) {
+        for (uint32_t label = 1; label <= THALINGUZE_VOUNITS; label++)
             check((read_text(constants[n], own[label], record) == THALINGUZE_ACCEPTED) == (n == label), "notation constant", own[label]);
+        bool known = read_text(constants[n], "Ang", record) == THALINGUZE_ACCEPTED && thalinguze_known(record);
+        check(known == (n == THALINGUZE_STARLINK), "notation constant", "Ang");
+    }
     char text[300];
     memset(text, 'm', sizeof text);
     text[THALINGUZE_MAX_LABEL_SIZE + 1] = 0;
     check(read_text(1, text, record) == THALINGUZE_TOO_LONG, "refusal or limit", "too long");
     text[THALINGUZE_MAX_LABEL_SIZE] = 0;
     check(read_text(1, text, record) == THALINGUZE_ACCEPTED, "limit", "as long as may be");
-    check(read_text(5, "m", record) == THALINGUZE_NO_SUCH_NOTATION, "refusal", "no such notation");
+    check(read_text(NOTATIONS + 1, "m", record) == THALINGUZE_NO_SUCH_NOTATION, "refusal", "no such notation");
     check(read_text(1, "m\n", record) == THALINGUZE_BYTE_OUT_OF_RANGE, "refusal", "byte out of range");
     check(read_text(1, "m~", record) == THALINGUZE_NOT_IN_GRAMMAR, "refusal", "not in grammar");
     check(read_text(1, "m100", record) == THALINGUZE_NUMBER_OUT_OF_BOUNDS, "refusal", "number out of bounds");

@@ -43,5 +43,5 @@ while IFS='|' read -r _ notation above below _; do
 done <<END
 $(sed -n '/^| Notation | Seconds above/,/^$/p' README.md | sed '1,2d;/^$/d')
 END
-[ "$rows" = 4 ] || fail "it has $rows rows of labels"
+[ "$rows" = 5 ] || fail "it has $rows rows of labels"
 echo "README.md prints what its $(cat "$out/count") commands print"

@@ -137,6 +137,8 @@ class Copy:
             self.need(["tests/independent.sh"])
             shutil.copytree(os.path.join(self.root, "build"), self.built)
             shutil.copytree(os.path.join(self.root, "target"), self.saved, ignore=shutil.ignore_patterns("inc"))
+        elif subprocess.run(["diff", "-rq", os.path.join(ROOT, "crates"), os.path.join(self.root, "crates")], stdout=subprocess.DEVNULL).returncode:
+            sys.exit("the copy in %s has other crates: remove it" % place)
 
     def need(self, command):
         status, said = self.run(command)

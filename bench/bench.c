@@ -7,7 +7,7 @@
 #include "others.h"
 #include "reader.h"
 
-enum { LABELS = 1000, ROUNDS = 120, PASSES = 2, LABEL_BYTES = 40000, NOTATIONS = 4, MAX_READERS = 3, RANDOM_LABELS = 50000 };
+enum { LABELS = 1000, ROUNDS = 120, PASSES = 2, LABEL_BYTES = 40000, NOTATIONS = THALINGUZE_STARLINK, MAX_READERS = 3, RANDOM_LABELS = 50000 };
 
 #ifdef HAVE_BEFORE
 reader before_read;
@@ -17,8 +17,8 @@ static reader *const read_before = NULL;
 #endif
 
 static const char *const files[NOTATIONS + 1] = {NULL, "bench/labels-fits.txt", "bench/labels-ogip.txt", "bench/labels-cds.txt",
-                                                 "bench/labels-vou.txt"};
-static const char *const notation_names[NOTATIONS + 1] = {NULL, "FITS", "OGIP", "CDS", "VOUnits"};
+                                                 "bench/labels-vou.txt", "bench/labels-starlink.txt"};
+static const char *const notation_names[NOTATIONS + 1] = {NULL, "FITS", "OGIP", "CDS", "VOUnits", "Starlink"};
 
 struct text {
     const uint8_t *bytes; /* a 0 byte follows */
@@ -83,7 +83,7 @@ static void check_all(void) {
             if (check_label(notation, lists[notation].texts[i].bytes, lists[notation].texts[i].size) != 0)
                 fail("refused", notation, lists[notation].texts[i].bytes, lists[notation].texts[i].size);
     for (unsigned long i = 0; i < RANDOM_LABELS; i++) {
-        uint32_t notation = below(6);
+        uint32_t notation = below(NOTATIONS + 2);
         accepted += check_label(notation, label, random_label(label, notation)) == 0;
     }
     printf("The readers agree on the %d labels of the lists and on %d random labels, %lu of them accepted.\n\n", NOTATIONS * LABELS,
@@ -139,7 +139,7 @@ static void table_of_readers(void) {
         for (unsigned i = 0; i < MAX_READERS; i++)
             sums[i] += ns[i] / NOTATIONS;
     }
-    print_row_beside("all four", sums);
+    print_row_beside("all five", sums);
     printf("\nAt most 3 times plain C: %s, %.2f.\n\n", sums[0] <= 3 * sums[1] ? "reached" : "not reached", sums[0] / sums[1]);
 }
 
@@ -232,11 +232,11 @@ static void growth_row(const char *what, unsigned times, const char *const *open
 }
 
 static void table_of_growth(void) {
-    static const char *const letters[] = {"", "x", "x", "x", "x"}, *const joined[] = {"", "km ", "km ", "km.", "km."};
-    static const char *const brackets[] = {"", "(", "(", "(", "("};
+    static const char *const letters[] = {"", "x", "x", "x", "x", "x"}, *const joined[] = {"", "km ", "km ", "km.", "km.", "km*"};
+    static const char *const brackets[] = {"", "(", "(", "(", "(", "("};
     static const unsigned bytes[] = {0, 1, 7, 31, 127, 254}, terms[] = {1, 2, 4, 8, 16, 24, 32}, depths[] = {1, 2, 3, 4, 5, 6, 7, 8, 127};
-    printf("| label | bytes | FITS ns | OGIP ns | CDS ns | VOUnits ns | most stack, bytes |%s\n", read_before ? " before |" : "");
-    printf("|---|---|---|---|---|---|---|%s\n", read_before ? "---|" : "");
+    printf("| label | bytes | FITS ns | OGIP ns | CDS ns | VOUnits ns | Starlink ns | most stack, bytes |%s\n", read_before ? " before |" : "");
+    printf("|---|---|---|---|---|---|---|---|%s\n", read_before ? "---|" : "");
     for (size_t i = 0; i < sizeof bytes / sizeof bytes[0]; i++)
         growth_row("letters of one unknown unit:", bytes[i], letters, "x", "");
     for (size_t i = 0; i < sizeof terms / sizeof terms[0]; i++)

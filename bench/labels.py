@@ -40,7 +40,7 @@ def exponent(notation, chance, text):
         return ('' if notation == 'f' and chance.random() < 0.5 else '**') + '(' + text + ')'
     if notation == 'f':
         return chance.choice(['', '', '', '**', '^']) + text
-    brackets = notation == 'o' and text[0] == '-' and chance.random() < 0.6
+    brackets = notation in 'os' and text[0] == '-' and chance.random() < 0.6
     return '**(' + text + ')' if brackets else '**' + text
 
 
@@ -64,7 +64,7 @@ def written(notation, chance, quantity):
     words = quantity.split()
     start = factor(notation, chance, words.pop(0)[2:]) if words[0].startswith('10') else ''
     parts = [split(word) for word in words]
-    join = {'f': chance.choice('   .*'), 'o': chance.choice('   *'), 'c': '.', 'v': '.'}[notation]
+    join = {'f': chance.choice('   .*'), 'o': chance.choice('   *'), 'c': '.', 'v': '.', 's': '*'}[notation]
     above = [u + exponent(notation, chance, e) for u, e in parts if e[0] != '-']
     plain = [u + exponent(notation, chance, e) for u, e in parts]
     below = [u + exponent(notation, chance, e[1:]) for u, e in parts if e[0] == '-']
@@ -77,11 +77,18 @@ def written(notation, chance, quantity):
     return start + join.join(above) + '/(' + join.join(below) + ')'
 
 
-def main():
+def quantities(notation):
+    """How often each quantity is drawn, and the quantity. Starlink has those of OGIP without a factor, and Ang for angstrom."""
     rows = [row.split(None, 2) for row in QUANTITIES.replace('\n', ' ').split(';')]
-    for notation, name in ('f', 'fits'), ('o', 'ogip'), ('c', 'cds'), ('v', 'vou'):
+    if notation == 's':
+        return [(int(weight), quantity.replace('angstrom', 'Ang')) for where, weight, quantity in rows if 'o' in where and quantity[:2] != '10']
+    return [(int(weight), quantity) for where, weight, quantity in rows if notation in where]
+
+
+def main():
+    for notation, name in ('f', 'fits'), ('o', 'ogip'), ('c', 'cds'), ('v', 'vou'), ('s', 'starlink'):
         chance = random.Random(name)
-        mine = [(int(weight), quantity) for where, weight, quantity in rows if notation in where]
+        mine = quantities(notation)
         drawn = chance.choices([q for _, q in mine], [w for w, _ in mine], k=COUNT)
         with open('bench/labels-%s.txt' % name, 'w') as f:
             f.writelines(written(notation, chance, quantity) + '\n' for quantity in drawn)

@@ -3,7 +3,7 @@
 #include <string.h>
 #include "reader.h"
 
-enum { FITS = THALINGUZE_FITS, OGIP = THALINGUZE_OGIP, CDS = THALINGUZE_CDS, VOU = THALINGUZE_VOUNITS };
+enum { FITS = THALINGUZE_FITS, OGIP = THALINGUZE_OGIP, CDS = THALINGUZE_CDS, VOU = THALINGUZE_VOUNITS, STARLINK = THALINGUZE_STARLINK };
 
 struct term {
     struct symbol symbol;
@@ -211,7 +211,7 @@ static bool product(struct parser *p, int sign) {
     do
         if (!item(p, sign))
             return false;
-    while (take(p, '.') || (p->notation == FITS && (take(p, ' ') || take(p, '*'))));
+    while ((p->notation != STARLINK && take(p, '.')) || (p->notation != VOU && take(p, '*')) || (p->notation == FITS && take(p, ' ')));
     return true;
 }
 
@@ -238,7 +238,7 @@ static bool chain(struct parser *p, int sign) {
 static bool body(struct parser *p, int sign) {
     if (p->notation == OGIP || p->notation == CDS)
         return chain(p, sign);
-    return product(p, sign) && (p->notation == FITS || !take(p, '/') || item(p, -sign));
+    return product(p, sign) && (p->notation != VOU || !take(p, '/') || item(p, -sign));
 }
 
 static bool whole(struct parser *p) {
@@ -247,12 +247,13 @@ static bool whole(struct parser *p) {
     if (*p->at == ' ' || p->end[-1] == ' ')
         return false;
     if (*p->at >= '0' && *p->at <= '9') {
-        if (!factor(p))
+        if (p->notation == STARLINK || !factor(p))
             return false;
     } else if (p->notation == FITS && take(p, '/')) {
         return item(p, -1) && p->at == p->end;
     }
-    return body(p, 1) && (p->notation != FITS || !take(p, '/') || item(p, -1)) && p->at == p->end;
+    bool last = p->notation == FITS || p->notation == STARLINK; /* the one slash is outside groups */
+    return body(p, 1) && (!last || !take(p, '/') || item(p, -1)) && p->at == p->end;
 }
 
 /* CONTENT */
@@ -324,7 +325,7 @@ static void write_record(uint8_t *record, const struct parser *p, const struct c
 }
 
 static uint32_t refusal(struct parser *p, size_t size) {
-    if (p->notation < FITS || p->notation > VOU)
+    if (p->notation < FITS || p->notation > STARLINK)
         return THALINGUZE_NO_SUCH_NOTATION;
     if (size > THALINGUZE_MAX_LABEL_SIZE)
         return THALINGUZE_TOO_LONG;

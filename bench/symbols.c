@@ -3,7 +3,7 @@
 #include "reader.h"
 
 enum { FITS = 1 << THALINGUZE_FITS, OGIP = 1 << THALINGUZE_OGIP, CDS = 1 << THALINGUZE_CDS, VOU = 1 << THALINGUZE_VOUNITS };
-enum { ALL = FITS | OGIP | CDS | VOU, NOT_OGIP = ALL - OGIP, NOT_CDS = ALL - CDS };
+enum { STARLINK = 1 << THALINGUZE_STARLINK, ALL = FITS | OGIP | CDS | VOU | STARLINK, NOT_OGIP = FITS | CDS | VOU, NOT_CDS = ALL - CDS };
 enum { PREFIXES = 20, LONGEST = 10, SLOTS = 4096, NO_MORE_BASES = 255 };
 
 static const struct {
@@ -20,7 +20,8 @@ static const struct {
     {"bit", 47, NOT_OGIP}, {"Ohm", 48, NOT_OGIP}, {"erg", 49, NOT_CDS}, {"G", 50, NOT_CDS}, {"lyr", 51, NOT_CDS},
     {"count", 40, NOT_CDS}, {"photon", 52, NOT_CDS}, {"pixel", 39, NOT_CDS}, {"chan", 53, NOT_CDS}, {"bin", 54, NOT_CDS},
     {"voxel", 55, NOT_CDS}, {"u", 56, FITS | VOU}, {"ph", 52, FITS | VOU}, {"R", 57, FITS | VOU}, {"adu", 58, FITS | VOU},
-    {"beam", 59, FITS | VOU}, {"Angstrom", 60, FITS | VOU}, {"angstrom", 60, OGIP | VOU}, {"ohm", 48, OGIP}, {"%", 61, CDS},
+    {"beam", 59, FITS | VOU}, {"Angstrom", 60, FITS | VOU}, {"angstrom", 60, OGIP | VOU}, {"ohm", 48, OGIP | STARLINK}, {"%", 61, CDS},
+    {"Ang", 60, STARLINK},
 };
 
 static const char prefix_letters[PREFIXES + 1][3] = {"", "da", "h", "k", "M", "G", "T", "P", "E", "Z", "Y",
@@ -75,7 +76,7 @@ const struct unit bench_units[THALINGUZE_UNITS + 1] = {
 static struct entry {
     uint8_t size, letters[LONGEST];
     struct symbol symbol;
-} tables[THALINGUZE_VOUNITS + 1][SLOTS];
+} tables[THALINGUZE_STARLINK + 1][SLOTS];
 
 static uint8_t one_letter_prefix[256];
 
@@ -111,7 +112,7 @@ static void enter(uint32_t notation, unsigned prefix, const char *name, unsigned
 /* names first, since a whole name comes before a prefix and a name */
 void bench_prepare(void) {
     for (unsigned prefix = 0; prefix <= PREFIXES; prefix++) {
-        for (uint32_t notation = THALINGUZE_FITS; notation <= THALINGUZE_VOUNITS; notation++)
+        for (uint32_t notation = THALINGUZE_FITS; notation <= THALINGUZE_STARLINK; notation++)
             for (size_t i = 0; i < sizeof names / sizeof names[0]; i++)
                 if ((names[i].notations >> notation & 1) && (prefix == 0 || names[i].name[0] != '%'))
                     enter(notation, prefix, names[i].name, names[i].unit);

@@ -14,7 +14,7 @@ use Rattle.claims.proofs.Longest as longest
 use Rattle.claims.proofs.NameTests as names
 use Rattle.claims.proofs.Lowest.{lowest}
 use Rattle.claims.proofs.Sixtieths.{whole-divides, divides-whole}
-use Rattle.claims.specs.Claims.{ParseIsTheGrammar, ParseRefusesTheRest, Unambiguous, RefusalsAreTheConditions, BoundsAreKept, ZeroDecimalsRefused, ZeroDecimalsAlone, RefusalsAreEmpty, ZeroIsAcceptance, AcceptedContent, ExponentsAsWritten, AnswersComeFromTheTerms, KnownVerdict, LawfulVerdict, RecommendedVerdict, DimensionsAreSums, ScaleIsASum, AtMostOneKnownRest, StarlinkSymbols, SixtiethsAreTheBound, ShownInLowestTerms, GrammarsAgree, NotationsAgree, RewrittenReadsAsTheSame, RewritingRefusals, RefusedRewritesAreEmpty, FourteenIsAShortBuffer, EarlierWhateverTheBuffer, OwnNotationHasForms, RewrittenOnceForAll, StarlinkSamples, MalformedLines, OtherLines, NamesFit, NamesDiffer, NamesAreLetters, NamesForAll, WordsTellApart, PlainWords, WordsRefusals, FourteenIfTheWordsAreLonger, SevenOrFourteen, WordsWithZero, NoWordsWithOthers, WordsAreShort, LongestWordsAreMet, RoomForAllWords, WordSamples}
+use Rattle.claims.specs.Claims.{ParseIsTheGrammar, ParseRefusesTheRest, Unambiguous, RefusalsAreTheConditions, BoundsAreKept, ZeroDecimalsRefused, ZeroDecimalsAlone, RefusalsAreEmpty, ZeroIsAcceptance, AcceptedContent, ExponentsAsWritten, AnswersComeFromTheTerms, KnownVerdict, LawfulVerdict, RecommendedVerdict, DimensionsAreSums, ScaleIsASum, AtMostOneKnownRest, StarlinkSymbols, SixtiethsAreTheBound, ShownInLowestTerms, GrammarsAgree, NotationsAgree, RewrittenReadsAsTheSame, RewritingRefusals, RefusedRewritesAreEmpty, FourteenIsAShortBuffer, EarlierWhateverTheBuffer, OwnNotationHasForms, RewrittenOnceForAll, StarlinkWriting, MalformedLines, OtherLines, NamesFit, NamesDiffer, NamesAreLetters, NamesForAll, WordsTellApart, PlainWords, WordsRefusals, FourteenIfTheWordsAreLonger, SevenOrFourteen, WordsWithZero, NoWordsWithOthers, WordsAreShort, LongestWordsAreMet, RoomForAllWords, WordSamples}
 use Rattle.claims.proofs.Conversions.{factor-once}
 use Rattle.claims.proofs.ConversionAnswers.{gives-converts, number-due, due-refused, zero-undue}
 use Rattle.claims.proofs.Inverses.{converts-itself, converts-inverse}
@@ -124,8 +124,8 @@ own-notation-has-forms n s h = never-twelve n s h
 pub rewritten-once-for-all : RewrittenOnceForAll
 rewritten-once-for-all n s m h = rewriting-again n s m h
 
-pub starlink-samples : StarlinkSamples
-starlink-samples = starlink.starlink-samples
+pub starlink-writing : StarlinkWriting
+starlink-writing = starlink.starlink-writing
 
 -- DEMAND 2, CONVERTING
 

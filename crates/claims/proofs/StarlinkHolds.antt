@@ -1,14 +1,39 @@
--- Starlink's known symbols, and its labels rewritten, by computation.
-use mathlib.Core.Path.{refl}
-use Rattle.label.specs.Rows.{styled, style-of}
-use Rattle.label.specs.Writing.{figures-before, figures, factor-text, power-text, exponent-text, same-symbol, reads-as, name-among, name-in, named-text, unknown-text, symbol-text, both-texts, unit-text, more-text, label-text, written-by, written, own-letters, writable, unless, sized, rewriting}
-use Rattle.label.proofs.Computing.{answers-compute}
+-- Starlink's known symbols, and what it writes.
+use Prim.Native.Nat.{ℕ}
+use mathlib.Core.Path.{_≡_, refl, sym, ap}
+use mathlib.Core.List.{List}
+use lib.IntN.{pos}
+use Rattle.label.specs.declared.Tens.{Tens}
+use Rattle.label.specs.Notations.{member, starlink, notation}
+use Rattle.label.specs.Reading.{reading}
+use Rattle.label.specs.Writing.{exponent-text, power-text, name-among, name-in, FactorForm, Rewriting, rewriting, Refuses}
+use Rattle.label.proofs.Basics.{false-true}
+use Rattle.label.proofs.Computing.{symbols-compute}
+use Rattle.label.proofs.Formed.{refuses-answered}
 use Rattle.label.proofs.Tables.{starlink-as-ogip, ang-for-angstrom, not-both}
-use Rattle.claims.specs.Claims.{StarlinkSymbols, StarlinkSamples}
+use Rattle.claims.specs.Claims.{StarlinkSymbols, StarlinkWriting}
 
 pub starlink-symbols : StarlinkSymbols
 starlink-symbols = record { as-ogip = λ l f g. starlink-as-ogip l f g; ang = ang-for-angstrom; not-both = not-both }
 
-pub starlink-samples : StarlinkSamples
-unfolding answers-compute styled style-of figures-before figures factor-text power-text exponent-text same-symbol reads-as name-among name-in named-text unknown-text symbol-text both-texts unit-text more-text label-text written-by written own-letters writable unless sized rewriting
-starlink-samples = record { in-fits = refl; in-ogip = refl; in-cds = refl; in-vounits = refl; in-starlink = refl; with-a-factor = refl }
+factor-form : {k : Tens} → FactorForm starlink k → k .0 ≡ pos 0
+unfolding member
+factor-form (FactorForm.omitted e) = e
+factor-form (FactorForm.factored e) = absurd (false-true (sym e))
+
+factored-twelve : (n : ℕ) (s : List ℕ) → reading n s .number ≡ 0 → (reading n s .k .0 ≡ pos 0 → ⊥) → rewriting n s starlink .number ≡ 12
+unfolding member notation
+factored-twelve n s z h = ap (λ (x : Rewriting). x .number) (refuses-answered n s starlink (Refuses.factor-formless z refl (λ f. h (factor-form f))))
+
+pub starlink-writing : StarlinkWriting
+unfolding symbols-compute exponent-text power-text name-among name-in
+starlink-writing = record {
+  exponents = λ e. refl;
+  factors = λ n s z h. factored-twelve n s z h;
+  in-fits = (59, refl, refl);
+  in-ogip = (59, refl, refl);
+  in-cds = (59, refl, refl);
+  in-vounits = (59, refl, refl);
+  from-fits = (59, refl, refl);
+  from-ogip = (59, refl, refl);
+}

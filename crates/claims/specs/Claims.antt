@@ -13,8 +13,9 @@ use Rattle.label.specs.declared.Exponent.{Exponent}
 use Rattle.label.specs.Bytes.{bytes, tab, letter, digit, all}
 use Rattle.label.specs.Choice.{pick}
 use Rattle.label.specs.Notations.{fits, ogip, cds, vounits, starlink, notation}
+use Rattle.label.specs.Rows.{ogip-style, starlink-style}
 use Rattle.label.specs.Prefixes.{prefixes}
-use Rattle.label.specs.Units.{units}
+use Rattle.label.specs.Units.{units, unit-at}
 use Rattle.label.specs.Symbols.{known, unit-named, known-cuts}
 use Rattle.label.specs.Lexical.{Factor, Part}
 use Rattle.label.specs.Grammar.{Derives}
@@ -24,7 +25,7 @@ use Rattle.label.specs.Split.{Split, Valued, valued, Condition, Refused, Accept
 use Rattle.label.specs.Reading.{Term, reading-of, reading}
 use Rattle.label.specs.Agreement.{Gives}
 use Rattle.label.specs.Meaning.{_∈_, Prefixable, Named, unrecommended, Sum, BaseIn, dimension, PrimeIn, prime-in-ten, scale-exponent, Empty, AsWritten, ZeroDecimal, PowerKeeps, FactorKeeps}
-use Rattle.label.specs.Writing.{Rewriting, refuse-rewriting, rewriting, rewriting-into, Refuses, SameContent}
+use Rattle.label.specs.Writing.{exponent-text, name-in, rewriting, rewriting-into, Refuses, SameContent}
 use Rattle.label.specs.Lines.{fields, answer-fields, answer}
 use Rattle.label.specs.Words.{Word, spoken-prefixes, spoken-units, all-names, names-fit, words, spoken, most-spoken, speaking-into}
 
@@ -192,18 +193,23 @@ RewrittenOnceForAll =
     → rewriting n s m .number ≡ 0
     → rewriting m (rewriting n s m .text) m ≡ record { number = 0; text = rewriting n s m .text }
 
--- an accepted rewriting
-abbrev pub rewritten-as : String → Rewriting
-rewritten-as s = record { number = 0; text = bytes s }
+-- the name l of notation n becomes o in notation m, whatever the prefix and the exponent
+abbrev pub Becomes : ℕ → String → ℕ → Option (List ℕ) → Type 0
+Becomes n l m o = (u : ℕ) × (unit-named n (bytes l) ≡ some u) × (name-in m (bytes l) (unit-at u .names) ≡ o)
 
--- W3's label in the other notations: "Ang .. becomes Angstrom in FITS and angstrom in OGIP and VOUnits"; and into Starlink: "12 also where the target is 5 and k isn't 0"
-pub record StarlinkSamples : Type 0 where
-  pub in-fits : rewriting starlink (bytes "J/(m**2*Ang*count)") fits ≡ rewritten-as "J m-2 Angstrom-1 count-1"
-  pub in-ogip : rewriting starlink (bytes "J/(m**2*Ang*count)") ogip ≡ rewritten-as "J m**(-2) angstrom**(-1) count**(-1)"
-  pub in-cds : rewriting starlink (bytes "J/(m**2*Ang*count)") cds ≡ refuse-rewriting 12
-  pub in-vounits : rewriting starlink (bytes "J/(m**2*Ang*count)") vounits ≡ rewritten-as "J.m**-2.angstrom**-1.count**-1"
-  pub in-starlink : rewriting ogip (bytes "J /m**2 /angstrom") starlink ≡ rewritten-as "J*m**(-2)*Ang**(-1)"
-  pub with-a-factor : rewriting ogip (bytes "10**3 m") starlink ≡ refuse-rewriting 12
+-- Document 02, W3, of writing. (That a star joins, and what FITS and OGIP write for Ang, also follows from `RewrittenReadsAsTheSame`.)
+pub record StarlinkWriting : Type 0 where
+  -- "with exponents as in OGIP"
+  pub exponents : (e : Exponent) → exponent-text starlink-style e ≡ exponent-text ogip-style e
+  -- "a label with k not 0 can't be written in notation 5"
+  pub factors : (n : ℕ) (s : List ℕ) → reading n s .number ≡ 0 → (reading n s .k .0 ≡ pos 0 → ⊥) → rewriting n s starlink .number ≡ 12
+  -- "Ang .. becomes Angstrom in FITS and angstrom in OGIP and VOUnits." CDS has no name for that unit, and its other names become Ang.
+  pub in-fits : Becomes starlink "Ang" fits (some (bytes "Angstrom"))
+  pub in-ogip : Becomes starlink "Ang" ogip (some (bytes "angstrom"))
+  pub in-cds : Becomes starlink "Ang" cds none
+  pub in-vounits : Becomes starlink "Ang" vounits (some (bytes "angstrom"))
+  pub from-fits : Becomes fits "Angstrom" starlink (some (bytes "Ang"))
+  pub from-ogip : Becomes ogip "angstrom" starlink (some (bytes "Ang"))
 
 -- LINES
 

@@ -193,11 +193,11 @@ RewrittenOnceForAll =
     → rewriting n s m .number ≡ 0
     → rewriting m (rewriting n s m .text) m ≡ record { number = 0; text = rewriting n s m .text }
 
--- the name l of notation n becomes o in notation m, whatever the prefix and the exponent
+-- the unit that notation n knows by the name l takes the name o in notation m. (A prefix and an exponent have no part in which name that is.)
 abbrev pub Becomes : ℕ → String → ℕ → Option (List ℕ) → Type 0
 Becomes n l m o = (u : ℕ) × (unit-named n (bytes l) ≡ some u) × (name-in m (bytes l) (unit-at u .names) ≡ o)
 
--- Document 02, W3, of writing. (That a star joins, and what FITS and OGIP write for Ang, also follows from `RewrittenReadsAsTheSame`.)
+-- Document 02, W3, of writing. (That its joint is a star, and which names FITS and OGIP write, follow from `RewrittenReadsAsTheSame` too.)
 pub record StarlinkWriting : Type 0 where
   -- "with exponents as in OGIP"
   pub exponents : (e : Exponent) → exponent-text starlink-style e ≡ exponent-text ogip-style e

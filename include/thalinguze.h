@@ -40,7 +40,7 @@ extern "C" {
 
 /* The version. The number is written in these three lines and nowhere else. */
 #define THALINGUZE_VERSION_MAJOR 0
-#define THALINGUZE_VERSION_MINOR 12
+#define THALINGUZE_VERSION_MINOR 13
 #define THALINGUZE_VERSION_PATCH 0
 
 /* The version as one number, 10203 for 1.2.3, and as text, "1.2.3". */

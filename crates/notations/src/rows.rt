@@ -1,9 +1,9 @@
 // What each notation has, as label/specs/Rows.antt says: its rules, how it writes, and its name.
 use label::Rules;
 use symbols::keys::MOST_LETTERS;
+use symbols::keys::compare;
 use symbols::keys::has_notation;
 use symbols::keys::key;
-use symbols::keys::same_symbol;
 ghost use mathlib.Core.Path.{_≡_};
 ghost use mathlib.Core.Bool.{true};
 ghost use mathlib.Core.Option.{some};
@@ -279,7 +279,7 @@ pub fn notation_named(name: &[u8]) -> u32
     let mut i: u32 = 0;
     while i < NOTATIONS {
         let at = i as usize;
-        if same_symbol(size, number, sizes[at], keys[at]) {
+        if compare(size, number, sizes[at], keys[at]).equal {
             return i + 1;
         }
         i += 1;

@@ -10,7 +10,7 @@ use lib.Dec.{T, leb, eqb, leb→le}
 use lib.IntN.{pos}
 use lib.ListN.{length, take, drop, getD, length-append, List·getD-eq-default}
 use lib.Seq.{drop-cons, drop-at, take-at}
-use borrow.Author.Tests.{eqb-true, ne-eqb, leb-true}
+use borrow.Author.Tests.{eqb-true, leb-true}
 use Rattle.label.proofs.Basics.{none-some, both, T→true, same-is, and-left, all-below, at-below}
 use Rattle.label.specs.Bytes.{same}
 use Rattle.label.specs.Choice.{pick}
@@ -28,7 +28,7 @@ use Rattle.symbols.specs.Columns.{name-count, unit-count, name-keys, name-codes
 use Rattle.symbols.specs.Views.{place}
 use Rattle.symbols.proofs.Computing.{columns-compute}
 use Rattle.symbols.proofs.RowLaws.{every, every-at}
-use Rattle.symbols.proofs.KeyLaws.{keyable, long-other, SpellingKey, agrees-spelled}
+use Rattle.symbols.proofs.KeyLaws.{keyable, long-other, other-length, SpellingKey, agrees-spelled}
 use Rattle.symbols.proofs.UnitLaws.{units-count}
 use Rattle.symbols.proofs.NameLaws as laws
 use Rattle.symbols.proofs.PrefixLaws as prefix-laws
@@ -82,18 +82,14 @@ name-short i = rw (← entry-is i) (spelled-short most-letters _ (entry-spelt i)
 pub own-spelled : {l : List ℕ} {size number : ℕ} → SpellingKey l size number → OwnOf l (record { size = size; number = number })
 own-spelled w = record { agree = λ i. rw (← entry-is i) (agrees-spelled w (laws.entry i .letters) (laws.letters-sound i)) }
 
-and-false : (b : Bool) → (b && false) ≡ false
-and-false true = refl
-and-false false = refl
-
 -- more letters than a name has
 pub own-long : (l : List ℕ) (size : ℕ) → length l ≡ size → most-letters < size → OwnOf l (record { size = size; number = 0 })
 own-long l size e h = record { agree = λ i. go i (name-short i) }
   where
     go : (i : ℕ) → length (entry i .letters) ≤ 8 → agrees size 0 (length (entry i .letters)) (key-of (entry i .letters)) ≡ same l (entry i .letters)
     go i s =
-        rw (ne-eqb size (length (entry i .letters)) (λ q. omega arith), and-false)
-        (sym (long-other l (entry i .letters) (omega arith) (rw (← entry-is i) (laws.letters-sound i))))
+        other-length size 0 (length (entry i .letters)) (key-of (entry i .letters)) (λ q. omega arith)
+        ∙ sym (long-other l (entry i .letters) (omega arith) (rw (← entry-is i) (laws.letters-sound i)))
 
 -- no letters
 pub own-empty : (s : List ℕ) (a e : ℕ) → e ≤ a → OwnOf (between s a e) (record { size = 0; number = 0 })

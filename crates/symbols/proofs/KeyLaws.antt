@@ -1,19 +1,20 @@
--- Keys: how one is made byte by byte, and that lengths and keys agree exactly if the bytes do.
-use Prim.Native.Nat.{ℕ, zero, suc, _+_, _*_, _-_, _<_, _≤_, _^_}
+-- Keys: how one is made byte by byte, that the letters come back from it, and that spellings by their lengths and keys agree exactly if the
+-- bytes do.
+use Prim.Native.Nat.{ℕ, zero, suc, _+_, _*_, _-_, _/_, _%_, _<_, _≤_, _^_}
 use native.Mathlib.Omega.{arith}
-use native.Mathlib.Nat.{pow-suc, sub-self, pow-le-pow-right, lt-of-lt-of-le}
+use native.Mathlib.Nat.{pow-suc, sub-self, div-one, div-div-eq-div-mul, pow-le-pow-right, lt-of-lt-of-le}
 use mathlib.Core.Path.{_≡_, refl, sym, ap, _∙_}
 use mathlib.Core.Bool.{Bool, true, false, _&&_}
 use mathlib.Core.List.{List, [], _∷_}
-use lib.Dec.{T, leb, ltb, eqb, eqb-refl, leb→le, ltb→lt}
+use lib.Dec.{T, leb, ltb, eqb, leb→le, ltb→lt}
 use lib.ListN.{length, getD}
 use mir.Syntax.{w8}
 use mir.Val.{Fits}
-use borrow.Author.Tests.{eqb-true}
-use Rattle.label.proofs.Basics.{T→true, both, false-true, same-is}
+use borrow.Author.Tests.{eqb-false}
+use Rattle.label.proofs.Basics.{both, same-is}
 use Rattle.label.specs.Bytes.{all, same}
 use Rattle.label.specs.Ranges.{between}
-use Rattle.symbols.specs.Keys.{most-letters, key-from, key-of, agrees}
+use Rattle.symbols.specs.Keys.{most-letters, key-from, key-of, spelling, agrees}
 use Rattle.label.proofs.Between.{Bytes, between-none, between-cons, length-between, fits-between}
 
 -- MAKING A KEY
@@ -76,51 +77,41 @@ long-other l t h k = go (same l t) refl
     go true e = absurd (omega (arith, short, ap length (same-is l t e)))
     go false e = refl
 
--- bytes of one length after two numbers make one number exactly if the numbers and the bytes are the same
-same-key : (a b : ℕ) (s t : List ℕ) → Bytes s → Bytes t → length s ≡ length t → key-from a s ≡ key-from b t → (a ≡ b) × (s ≡ t)
+-- SPELLINGS FROM KEYS
+
+pub length-spelling : (n k : ℕ) → length (spelling n k) ≡ n
+unfolding spelling
+length-spelling zero k = refl
+length-spelling (suc n) k = ap suc (length-spelling n k)
+
+-- what a number has before the bytes s
+before-bytes : (k : ℕ) (s : List ℕ) → Bytes s → key-from k s / 256 ^ length s ≡ k
 unfolding key-from
-same-key a b [] [] u v h e = (e, refl)
-same-key a b [] (d ∷ t) u v h e = absurd (omega arith)
-same-key a b (c ∷ s) [] u v h e = absurd (omega arith)
-same-key a b (c ∷ s) (d ∷ t) u v h e =
-    let w = same-key (a * 256 + c) (b * 256 + d) s t (λ i. u (suc i)) (λ i. v (suc i)) (omega arith) e in
-    let x : c < 256 = u 0 in
-    let y : d < 256 = v 0 in
-    let p : a ≡ b = omega (arith, w .0) in
-    let q : c ≡ d = omega (arith, w .0) in
-    (p, cc (w .1))
+before-bytes k [] b = div-one k
+before-bytes k (c ∷ s) b =
+    let e : key-from (k * 256 + c) s / 256 ^ length s ≡ k * 256 + c = before-bytes (k * 256 + c) s (λ i. b (suc i)) in
+    let f : c < 256 = b 0 in
+    ap (λ (m : ℕ). key-from (k * 256 + c) s / m) (pow-suc 256 (length s)) ∙ sym (div-div-eq-div-mul _ (256 ^ length s) 256) ∙ rw e (omega arith)
 
-same-refl : (s : List ℕ) → same s s ≡ true
-unfolding same
-same-refl [] = refl
-same-refl (c ∷ s) = rw (T→true (eqb c c) (eqb-refl c), same-refl s)
+-- letters come back from their key
+spelling-key : (k : ℕ) (l : List ℕ) → Bytes l → spelling (length l) (key-from k l) ≡ l
+unfolding spelling key-from
+spelling-key k [] b = refl
+spelling-key k (c ∷ l) b =
+    let f : c < 256 = b 0 in
+    let e : (k * 256 + c) % 256 ≡ c = omega arith in
+    rw (before-bytes (k * 256 + c) l (λ i. b (suc i)), e, spelling-key (k * 256 + c) l (λ i. b (suc i)))
 
--- Lengths and keys agree exactly if the bytes agree.
-pub agrees-same : (l t : List ℕ) → Bytes l → T (keyable t) → agrees (length l) (key-of l) (length t) (key-of t) ≡ same l t
-unfolding keyable
-agrees-same l t b k = go (agrees (length l) (key-of l) (length t) (key-of t)) refl (same l t) refl
+-- COMPARING SPELLINGS
+
+-- spellings of two lengths differ
+pub other-length : (size number symbol-size symbol-number : ℕ) → (size ≡ symbol-size → ⊥) → agrees size number symbol-size symbol-number ≡ false
+other-length size number symbol-size symbol-number h = go (agrees size number symbol-size symbol-number) refl
   where
-    bytes : Bytes t
-    bytes = all-bytes t (both (leb (length t) most-letters) _ k .1)
-
-    told : (x y : Bool) → (x && y) ≡ true → (x ≡ true) × (y ≡ true)
-    told true true e = (refl, refl)
-    told true false e = absurd (false-true e)
-    told false y e = absurd (false-true e)
-
-    is : agrees (length l) (key-of l) (length t) (key-of t) ≡ true → l ≡ t
-    is e =
-        let w = told (eqb (key-of l) (key-of t)) (eqb (length l) (length t)) e in
-        same-key 0 0 l t b bytes (eqb-true (length l) (length t) (w .1)) (eqb-true (key-of l) (key-of t) (w .0)) .1
-
-    self : l ≡ t → agrees (length l) (key-of l) (length t) (key-of t) ≡ true
-    self e = rw (e, T→true (eqb (key-of t) (key-of t)) (eqb-refl (key-of t)), T→true (eqb (length t) (length t)) (eqb-refl (length t)))
-
-    go : (x : Bool) → agrees (length l) (key-of l) (length t) (key-of t) ≡ x → (y : Bool) → same l t ≡ y → x ≡ y
-    go true e true f = refl
-    go true e false f = sym (same-refl t) ∙ ap (λ (u : List ℕ). same u t) (sym (is e)) ∙ f
-    go false e true f = sym e ∙ self (same-is l t f)
-    go false e false f = refl
+    go : (x : Bool) → agrees size number symbol-size symbol-number ≡ x → x ≡ false
+    go true e =
+        absurd (h (sym (length-spelling size number) ∙ ap length (same-is _ _ e) ∙ length-spelling symbol-size symbol-number))
+    go false e = refl
 
 -- the spelling l is of bytes, and has that size and key
 pub record SpellingKey (l : List ℕ) (size number : ℕ) : Type 0 where
@@ -128,9 +119,27 @@ pub record SpellingKey (l : List ℕ) (size number : ℕ) : Type 0 where
   pub size-is : size ≡ length l
   pub number-is : number ≡ key-of l
 
+-- its letters come back from them
+pub spelled-by-key : {l : List ℕ} {size number : ℕ} → SpellingKey l size number → spelling size number ≡ l
+spelled-by-key {l} w = rw (w .size-is, w .number-is) (spelling-key 0 l (w .bytes))
+
+-- and so do those of a symbol
+pub symbol-by-key : (t : List ℕ) → T (keyable t) → spelling (length t) (key-of t) ≡ t
+unfolding keyable
+symbol-by-key t k = spelling-key 0 t (all-bytes t (both (leb (length t) most-letters) _ k .1))
+
+-- A spelling and a symbol, by their lengths and keys, agree exactly if they are the same.
 pub agrees-spelled : {l : List ℕ} {size number : ℕ} → SpellingKey l size number → (t : List ℕ) → T (keyable t)
     → agrees size number (length t) (key-of t) ≡ same l t
-agrees-spelled {l} w t k = rw (w .size-is, w .number-is) (agrees-same l t (w .bytes) k)
+agrees-spelled w t k = rw (spelled-by-key w, symbol-by-key t k)
+
+-- a symbol with another key is another
+pub other-key : {l : List ℕ} {size number : ℕ} → SpellingKey l size number → (t : List ℕ) → eqb number (key-of t) ≡ false → same l t ≡ false
+other-key {l} {size} {number} w t h = go (same l t) refl
+  where
+    go : (x : Bool) → same l t ≡ x → x ≡ false
+    go true e = absurd (eqb-false number (key-of t) h (w .number-is ∙ ap key-of (same-is l t e)))
+    go false e = refl
 
 -- a part of a slice that is short enough for a key
 pub spelled-part : (s : List ℕ) (start end : ℕ) → start ≤ end → end ≤ length s → ((i : ℕ) → Fits w8 (getD s i 0)) → (number : ℕ)

@@ -2,6 +2,7 @@
 pub mod Computing
 pub mod RowLaws
 pub mod KeyLaws
+pub mod PairLaws
 pub mod SetLaws
 pub mod Quotes
 pub mod GroupLaws

@@ -23,7 +23,7 @@ use Rattle.symbols.specs.Columns.{name-count, name-keys, name-code, name
 use Rattle.symbols.specs.Views.{place}
 use Rattle.symbols.proofs.Computing.{columns-compute}
 use Rattle.symbols.proofs.GroupLaws.{start, start-upto, before-start}
-use Rattle.symbols.proofs.KeyLaws.{keyable, long-other, SpellingKey, agrees-spelled}
+use Rattle.symbols.proofs.KeyLaws.{keyable, long-other, SpellingKey, agrees-spelled, other-key}
 use Rattle.symbols.proofs.SetLaws.{alike, told-by-bits, bit-member}
 use Rattle.symbols.proofs.RowLaws.{every, every-at, first, first-none, Sought, sought-none, sought-all, sought-hit, sought-miss}
 
@@ -210,7 +210,15 @@ module _ {ks cs : List ℕ} {n : ℕ} {l : List ℕ} {size number : ℕ} where
   search-start w v = go (start (number % groups)) (omega arith)
     where
       other : (i : ℕ) → i < start (number % groups) → false ≡ (agrees size number (getD cs i 0 / 65536) (getD ks i 0) && has-bit n (getD cs i 0 / 256 % 256))
-      other i h = rw (w .keys-are, before-start number i h)
+      other i h = rw (
+        w .keys-are,
+        w .codes-are,
+        key-at i,
+        code-at i,
+        code-sound i .0,
+        agrees-spelled v (entry i .letters) (letters-sound i),
+        other-key v (entry i .letters) (rw (key-at i) at (before-start number i h)),
+      )
 
       go : (i : ℕ) → i ≤ start (number % groups) → SearchingNames ks cs n l size number i
       go zero h = search-none w v

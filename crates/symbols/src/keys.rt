@@ -1,9 +1,10 @@
 // Spellings as numbers: their keys, their comparison with a symbol of a table, sets of notations; and where a spelling has a quote.
+use crate::Comparison;
 ghost use mathlib.Core.Path.{_≡_};
 ghost use Prim.Native.Nat.{_≤_, _-_};
 ghost use lib.ListN.{length};
 ghost use Rattle.label.specs.Ranges.{between};
-ghost use Rattle.symbols.specs.Keys.{key-of, agrees, most-letters};
+ghost use Rattle.symbols.specs.Keys.{key-of, letter-at, spelling, agrees, pairs-looked-at, most-letters};
 ghost use Rattle.symbols.specs.Sets.{has-bit};
 ghost use Rattle.symbols.specs.Views.{FirstQuote};
 
@@ -34,15 +35,40 @@ pub fn key(s: &[u8], start: usize, end: usize) -> u64
     number
 }
 
-// Whether a spelling of that size and key is a symbol of a table, of which size and key are given too.
-// This is the one place where a spelling is compared with a symbol.
-pub fn same_symbol(size: usize, number: u64, symbol_size: usize, symbol_number: u64) -> bool
-    ensures { λ r. ⌜ r ≡ agrees size number «symbol_size» «symbol_number» ⌝ }
+// The letter of a key that has `after` letters after it. A key has eight bytes, and nothing but 0 before them.
+fn letter(number: u64, after: usize) -> u64
+    ensures { λ r. ⌜ r ≡ letter-at after number ⌝ }
 {
-    if number == symbol_number {
-        return size == symbol_size;
+    if MOST_LETTERS <= after {
+        return 0;
     }
-    false
+    (number >> (8 * after as u64)) % 256
+}
+
+// Compares a spelling of that size and key with a symbol of a table, of which size and key are given too: the sizes first, then letter by
+// letter up to the first difference. This is the one place where a spelling is compared with a symbol.
+pub fn compare(size: usize, number: u64, symbol_size: usize, symbol_number: u64) -> Comparison
+    ensures { λ r. ⌜ r .equal ≡ agrees size number «symbol_size» «symbol_number» ⌝ }
+    ensures { λ r. ⌜ r .pairs ≡ pairs-looked-at (spelling size number) (spelling «symbol_size» «symbol_number») ⌝ }
+{
+    if size != symbol_size {
+        return Comparison {
+            equal: false,
+            pairs: 0,
+        };
+    }
+    let mut pairs = 0;
+    while pairs < size {
+        let after = size - pairs - 1;
+        pairs += 1;
+        if letter(number, after) != letter(symbol_number, after) {
+            return Comparison {
+                equal: false,
+                pairs,
+            };
+        }
+    }
+    Comparison { equal: true, pairs }
 }
 
 // Whether `n` is a notation of the set. A set is a byte.

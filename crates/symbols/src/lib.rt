@@ -34,3 +34,11 @@ pub struct PrefixCut {
     // Where the rest starts: after the prefix, or where the spelling starts if there is none.
     pub rest: usize,
 }
+
+// What the comparison of a spelling with a symbol of a table tells.
+pub struct Comparison {
+    // Whether they have the same letters.
+    pub equal: bool,
+    // How many pairs of letters were looked at.
+    pub pairs: usize,
+}

@@ -6,10 +6,10 @@ use crate::groups::first_in_group;
 use crate::keys::MOST_LETTERS;
 use crate::keys::ONE_BYTE;
 use crate::keys::TWO_BYTES;
+use crate::keys::compare;
 use crate::keys::first_quote;
 use crate::keys::has_notation;
 use crate::keys::key;
-use crate::keys::same_symbol;
 use crate::prefix_table::PREFIXES;
 use crate::unit_table::NAMES;
 ghost use mathlib.Core.Path.{_≡_};
@@ -33,7 +33,7 @@ const GROUPS: u64 = 147;
 pub fn is_name(n: u8, size: usize, number: u64, key: u64, code: u32) -> bool
     ensures { λ r. ⌜ r ≡ (agrees size number (code / 65536) key && has-bit n (code / 256 % 256)) ⌝ }
 {
-    if same_symbol(size, number, (code / TWO_BYTES) as usize, key) {
+    if compare(size, number, (code / TWO_BYTES) as usize, key).equal {
         return has_notation(n, (code / ONE_BYTE % ONE_BYTE) as u8);
     }
     false
@@ -65,12 +65,12 @@ pub fn unit_named(keys: &[u64], codes: &[u32], n: u8, s: &[u8], start: usize, en
 fn is_prefix(size: usize, number: u64, code: u32) -> bool
     ensures { λ r. ⌜ r ≡ agrees size number (code / 65536) (code % 65536) ⌝ }
 {
-    same_symbol(
+    compare(
         size,
         number,
         (code / TWO_BYTES) as usize,
         (code % TWO_BYTES) as u64,
-    )
+    ).equal
 }
 
 // One more than the place of the prefix that the spelling from `start` up to `end` is, or 0.

@@ -32,20 +32,20 @@ loop-holds c = search-start _ _ (c .before .before .before .before .shared-slice
 cast-at : tie.Need-cast-at Inv-loop μ-loop
 cast-at c = search needs
 
-mul-same-symbol : tie.Need-mul-same-symbol Inv-loop μ-loop
-mul-same-symbol c = omega arith
+mul-compare : tie.Need-mul-compare Inv-loop μ-loop
+mul-compare c = omega arith
 
-array-read-same-symbol : tie.Need-array-read-same-symbol Inv-loop μ-loop
-array-read-same-symbol c = omega arith
+array-read-compare : tie.Need-array-read-compare Inv-loop μ-loop
+array-read-compare c = omega arith
 
-mul-same-symbol-2 : tie.Need-mul-same-symbol-2 Inv-loop μ-loop
-mul-same-symbol-2 c = omega arith
+mul-compare-2 : tie.Need-mul-compare-2 Inv-loop μ-loop
+mul-compare-2 c = omega arith
 
-array-read-same-symbol-2 : tie.Need-array-read-same-symbol-2 Inv-loop μ-loop
-array-read-same-symbol-2 c = omega arith
+array-read-compare-2 : tie.Need-array-read-compare-2 Inv-loop μ-loop
+array-read-compare-2 c = omega arith
 
-same-symbol-requires : tie.Need-same-symbol-requires Inv-loop μ-loop
-same-symbol-requires c κs = search needs
+compare-requires : tie.Need-compare-requires Inv-loop μ-loop
+compare-requires c κs = search needs
 
 add-result : tie.Need-add-result Inv-loop μ-loop
 add-result c = omega arith
@@ -53,7 +53,7 @@ add-result c = omega arith
 returns-2 : tie.Need-returns-2 Inv-loop μ-loop
 unfolding named
 returns-2 c =
-    search-hit (c .before .before .before .loop .inv) (c .before .before .loop-test .taken) (rw (c .before .before .before .before .before .notation-sizes .ensures, c .before .before .before .before .notation-keys .ensures) at (c .before .same-symbol .ensures)) (c .if2 .taken)
+    search-hit (c .before .before .before .loop .inv) (c .before .before .loop-test .taken) (rw (c .before .before .before .before .before .notation-sizes .ensures, c .before .before .before .before .notation-keys .ensures) at (c .before .compare .ensures .0)) (c .if2 .taken)
 
 add-i : tie.Need-add-i Inv-loop μ-loop
 add-i c = omega arith
@@ -64,7 +64,7 @@ loop-less c = omega arith
 loop-again : tie.Need-loop-again Inv-loop μ-loop
 unfolding named
 loop-again c =
-    search-miss (c .before .before .before .loop .inv) (c .before .before .loop-test .taken) (rw (c .before .before .before .before .before .notation-sizes .ensures, c .before .before .before .before .notation-keys .ensures) at (c .before .same-symbol .ensures)) (c .if2 .left)
+    search-miss (c .before .before .before .loop .inv) (c .before .before .loop-test .taken) (rw (c .before .before .before .before .before .notation-sizes .ensures, c .before .before .before .before .notation-keys .ensures) at (c .before .compare .ensures .0)) (c .if2 .left)
 
 returns-3 : tie.Need-returns-3 Inv-loop μ-loop
 unfolding named
@@ -82,11 +82,11 @@ notation-named-spec =
     name-keys-requires
     loop-holds
     cast-at
-    mul-same-symbol
-    array-read-same-symbol
-    mul-same-symbol-2
-    array-read-same-symbol-2
-    same-symbol-requires
+    mul-compare
+    array-read-compare
+    mul-compare-2
+    array-read-compare-2
+    compare-requires
     add-result
     returns-2
     add-i

@@ -4,11 +4,11 @@ use borrow.Author.Needs.{needs}
 use Rattle.symbols.proofs.lookup.is_name.Statement.{statement}
 use Rattle.symbols.proofs.lookup.is_name.Tie as tie
 
-cast-same-symbol : tie.Need-cast-same-symbol
-cast-same-symbol c = search needs
+cast-compare : tie.Need-cast-compare
+cast-compare c = search needs
 
-same-symbol-requires : tie.Need-same-symbol-requires
-same-symbol-requires c κs = search needs
+compare-requires : tie.Need-compare-requires
+compare-requires c κs = search needs
 
 cast-has-notation : tie.Need-cast-has-notation
 cast-has-notation c = search needs
@@ -17,17 +17,17 @@ has-notation-requires : tie.Need-has-notation-requires
 has-notation-requires c κs = search needs
 
 returns : tie.Need-returns
-returns c = rw (sym (c .before .before .same-symbol .ensures) ∙ c .before .if1 .taken) (c .has-notation .ensures)
+returns c = rw (sym (c .before .before .compare .ensures .0) ∙ c .before .if1 .taken) (c .has-notation .ensures)
 
 returns-2 : tie.Need-returns-2
-returns-2 c = rw (sym (c .before .same-symbol .ensures) ∙ c .if1 .left)
+returns-2 c = rw (sym (c .before .compare .ensures .0) ∙ c .if1 .left)
 
 pub is-name-spec : {M : Type 1} → statement M
 is-name-spec =
     tie.close
     (tie.spec
-    cast-same-symbol
-    same-symbol-requires
+    cast-compare
+    compare-requires
     cast-has-notation
     has-notation-requires
     returns

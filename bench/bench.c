@@ -1,5 +1,6 @@
 /* How long reading, rewriting, converting and words take and how much stack, as tables in Markdown: bench. The figures are ratios of one run: in
-   each round every reader reads all labels, and the best round of each counts. Nothing is timed before the readers agree on every label. */
+   each round every reader reads all labels, and the best round of each counts. Nothing is timed before the readers agree on every label.
+   bench library I, bench before I: one reading of spelling I, for a count of its instructions. */
 #define _POSIX_C_SOURCE 200809L
 #include <time.h>
 #include "../tests/labels.h"
@@ -186,6 +187,45 @@ static double table_beside(const char *name, reader *read) {
     return of_fits;
 }
 
+/* LOOKUPS */
+
+/* FITS labels of one spelling: known, known and long, and unknown */
+static const char *const spellings[] = {"m", "solMass", "xxxxxxxxxxxxxxxxxxxx", NULL};
+
+/* the spelling of that place; the last is as long as a label can be */
+static struct text spelling(unsigned i) {
+    static uint8_t longest[LABEL_ROOM];
+    if (spellings[i])
+        return (struct text){(const uint8_t *)spellings[i], strlen(spellings[i])};
+    memset(longest, 'x', THALINGUZE_MAX_LABEL_SIZE);
+    return (struct text){longest, THALINGUZE_MAX_LABEL_SIZE};
+}
+
+static void table_of_spellings(void) {
+    reader *const readers[MAX_READERS] = {thalinguze_read, bench_read, read_before};
+    printf("| ns a FITS label of one spelling | library | plain C | library / plain C |%s\n", read_before ? " before | library / before |" : "");
+    printf("|---|---|---|---|%s\n", read_before ? "---|---|" : "");
+    for (unsigned i = 0; i < sizeof spellings / sizeof spellings[0]; i++) {
+        static struct list one;
+        double ns[MAX_READERS];
+        char name[64];
+        one = (struct list){.notation = THALINGUZE_FITS, .count = 1, .texts = {spelling(i)}};
+        time_readers(readers, ns, &one, 400);
+        if (one.texts[0].size < 8)
+            snprintf(name, sizeof name, "`%s`", spellings[i]);
+        else
+            snprintf(name, sizeof name, "an unknown one of %zu letters", one.texts[0].size);
+        print_row_beside(name, ns);
+    }
+    printf("\n");
+}
+
+/* one reading of the spelling of that place, for a count of its instructions */
+static int read_once(reader *read, unsigned i) {
+    struct text text = spelling(i);
+    return read ? (int)read(THALINGUZE_FITS, text.bytes, text.size, record, sizeof record) : 2;
+}
+
 /* GROWTH */
 
 /* one label in each notation: time, and the largest use of stack */
@@ -248,7 +288,9 @@ static void table_of_growth(void) {
     printf("\n");
 }
 
-int main(void) {
+int main(int argc, char **argv) {
+    if (argc == 3)
+        return read_once(strcmp(argv[1], "before") == 0 ? read_before : thalinguze_read, (unsigned)atoi(argv[2]));
     bench_prepare();
     prepare_others();
     read_vectors("vectors/readings.tsv");
@@ -264,6 +306,7 @@ int main(void) {
     if (beside_wcslib > 0)
         printf("At most 0.4 of wcslib on FITS labels: %s, %.2f.\n\n", beside_wcslib <= 0.4 ? "reached" : "not reached", beside_wcslib);
     table_beside("udunits2", read_by_udunits);
+    table_of_spellings();
     table_of_growth();
     return 0;
 }

@@ -14,7 +14,7 @@ use values::brackets::deepest;
 use values::factors::factor;
 
 // What a label says, its terms in lent arrays, or the number of the first refusal that is due.
-#[derive(Drop)]
+#[derive(Clone, Copy)]
 pub struct Checked {
     pub ok: bool,
     pub number: u8,

@@ -79,6 +79,7 @@ is_yes (no e) = false
 
 yes_is : {x y : Said} (d : Dec (x ≡ y)) → T (is_yes d) → x ≡ y
 yes_is (yes e) t = e
+yes_is {y = y} (no _) t = elim t [ ]
 
 -- the test of a word that is in a table
 unfoldable is_audible : Said → Bool
@@ -194,3 +195,4 @@ joined_apart (AllAudible.also a us) (AllAudible.also b bs) e = spaced_apart (All
 pub all_plain : {xs : List Said} → AllAudible xs → (w : Word) → w ∈ map spell xs → PlainWord w
 all_plain (AllAudible.also a us) w (inl e) = rw e a.plain
 all_plain (AllAudible.also a us) w (inr h) = all_plain us w h
+all_plain done w x3 = elim x3 [ ]

@@ -89,6 +89,7 @@ number_below n (c ∷ l) t =
 pub figures_within : (n : ℕ) (l : List ℕ) → 1 ≤ length l → T (all digit l) → n ≤ number l → length (figures n) ≤ length l
 unfolding number
 figures_within n (c ∷ l) h t k = figures_short (length l) n (omega (arith, number_below 0 (c ∷ l) t))
+figures_within n [] h t k = elim h [ ]
 
 -- "minus"
 abbrev pub minus_cost : Bool → ℕ

@@ -11,7 +11,7 @@ use symbols::properties::{is_lawful, is_recommended};
 use symbols::unit_table::{unit_prefixed, unit_recommended};
 
 // Whether every unit is known, whether every prefix is lawful, and whether every unit is recommended.
-#[derive(Drop)]
+#[derive(Clone, Copy)]
 pub struct Verdicts {
     pub known: bool,
     pub lawful: bool,

@@ -7,7 +7,7 @@ use crate::prime_powers::LARGEST;
 use label::Tens;
 
 // 0 and a fraction times a power of ten, or the number of a refusal, 0/1 and k = 0.
-#[derive(Drop)]
+#[derive(Clone, Copy)]
 pub struct Conversion {
     pub number: u8,
     pub numerator: u64,

@@ -10,7 +10,7 @@ use label::Tens;
 use scan::class::both;
 
 // The exponents of 2, 3, 5 and 487 in first over second, in sixtieths.
-#[derive(Drop)]
+#[derive(Clone, Copy)]
 pub struct ScaleRatio {
     pub twos: i64,
     pub threes: i64,

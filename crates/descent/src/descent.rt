@@ -43,7 +43,7 @@ pub fn read_unit(
 }
 
 // Whether the units of a product are turned over, and whether the product may end with a slash and one unit or group.
-#[derive(Drop)]
+#[derive(Clone, Copy)]
 pub struct Sense {
     pub turned: bool,
     pub over: bool,

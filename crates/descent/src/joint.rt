@@ -7,7 +7,7 @@ use scan::class::{both, byte_at};
 use scan::run::spaces;
 
 // Whether something joins, whether it is a slash, and where the text after it starts.
-#[derive(Drop)]
+#[derive(Clone, Copy)]
 pub struct JointAt {
     pub found: bool,
     pub over: bool,
@@ -96,7 +96,7 @@ pub fn join_at(r: Rules, s: &[u8], at: usize) -> JointAt
 }
 
 // A slash that leads a product, and where the text after it starts.
-#[derive(Drop)]
+#[derive(Clone, Copy)]
 pub struct Leading {
     pub found: bool,
     pub next: usize,

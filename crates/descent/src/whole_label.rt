@@ -11,7 +11,7 @@ use scan::run::spaces;
 use tokens::factor::factor_at;
 
 // The factor of a label, or none where `ok` is false. The terms are in the lent arrays.
-#[derive(Drop)]
+#[derive(Clone, Copy)]
 pub struct LabelRead {
     pub ok: bool,
     pub factor: WrittenFactor,

@@ -1,4 +1,6 @@
 // What a C program calls.
+#![tactic(auto)]
+
 pub mod conversion_record;
 
 ghost use Rattle.std.specs.Prelude.{◌≡◌, length};

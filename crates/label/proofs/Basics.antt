@@ -22,18 +22,24 @@ false_true e = let z : ◌≡◌ {A = ℕ} 0 1 = cc in omega arith
 
 pub T→true : (b : Bool) → T b → b ≡ true
 T→true true t = refl
+T→true false t = elim t [ ]
 
 pub true→T : {b : Bool} → b ≡ true → T b
 true→T e = rw e tt
 
 pub T_not : (b : Bool) → T (not b) → b ≡ false
 T_not false t = refl
+T_not true t = elim t [ ]
 
 pub both : (a b : Bool) → T (a && b) → T a × T b
 both true true t = (tt, tt)
+both false b t = elim t [ ]
+both true false t = elim t [ ]
 
 pub T_and : (a b : Bool) → T a → T b → T (a && b)
 T_and true true t u = tt
+T_and false b t u = elim t [ ]
+T_and true false t u = elim u [ ]
 
 pub and_left : (x y : Bool) → (x && y) ≡ true → x ≡ true
 and_left true y e = refl

@@ -198,6 +198,7 @@ placed_lettered i l (p ∷ ps) t e = go (same l p.name) refl (both (some_letters
         → T (is_some (pick x (some i) (placed (suc i) l ps))) → T (some_letters l)
     go true q w ih e = rw (same_is l p.name q) w.0
     go false q w ih e = ih w.1 e
+placed_lettered i l [] t e = elim e [ ]
 
 -- a prefix name is letters
 pub prefix_lettered : {p : List ℕ} → PrefixName p → Letters p

@@ -43,6 +43,10 @@ letter_bounds c t = go (leb 65 c) (leb c 90) (leb 97 c) (leb c 122) refl refl re
     go true true z w e f g h t = omega (arith, leb-true 65 c e, leb-true c 90 f)
     go true false true true e f g h t = omega (arith, leb-true 97 c g, leb-true c 122 h)
     go false y true true e f g h t = omega (arith, leb-true 97 c g, leb-true c 122 h)
+    go false y false w e f g h t = elim t [ ]
+    go false y true false e f g h t = elim t [ ]
+    go true false false w e f g h t = elim t [ ]
+    go true false true false e f g h t = elim t [ ]
 
 letter_quiet : (c : ℕ) → T (letter c) → T (quiet c)
 unfolding letter

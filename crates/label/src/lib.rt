@@ -1,4 +1,5 @@
 // Unit labels. The definitions of specs/ say what a label means; this file has the bounds and the types that they share with the code.
+#![tactic(auto)]
 
 // The most bytes and the most terms that a label may have (document 01, numbers that bound a label).
 pub const MOST_BYTES: usize = 255;
@@ -16,15 +17,15 @@ pub const PARTS_OF_ONE: u64 = 60;
 pub const SIXTIETHS: i64 = PARTS_OF_ONE as i64;
 
 // An exponent, counted in sixtieths.
-#[derive(Drop)]
+#[derive(Clone, Copy)]
 pub struct Exponent(pub i32);
 
 // A power of ten, counted in tens.
-#[derive(Drop)]
+#[derive(Clone, Copy)]
 pub struct Tens(pub i32);
 
 // The rules by which a notation reads its labels.
-#[derive(Drop)]
+#[derive(Clone, Copy)]
 pub struct Rules {
     // Spellings: a percent sign; letters in quotes.
     pub percent: bool,
@@ -55,21 +56,21 @@ pub struct Rules {
 }
 
 // Digits of a label: the bytes from `start` up to `end`.
-#[derive(Drop)]
+#[derive(Clone, Copy)]
 pub struct DigitRange {
     pub start: usize,
     pub end: usize,
 }
 
 // An integer of a label: its sign and its digits.
-#[derive(Drop)]
+#[derive(Clone, Copy)]
 pub struct SignedDigits {
     pub negative: bool,
     pub digits: DigitRange,
 }
 
 // A power as written in a label.
-#[derive(Drop)]
+#[derive(Clone, Copy)]
 pub enum WrittenPower {
     Unwritten,
     Whole(SignedDigits),
@@ -78,7 +79,7 @@ pub enum WrittenPower {
 }
 
 // A factor as written in a label: none, ten to an integer, or 1 and a number of zeros.
-#[derive(Drop)]
+#[derive(Clone, Copy)]
 pub enum WrittenFactor {
     Absent,
     TenTo(SignedDigits),

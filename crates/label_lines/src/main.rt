@@ -1,10 +1,12 @@
 // The line program: answers each line of standard input by a line of standard output.
+#![tactic(auto)]
+
 ghost use Rattle.std.specs.Prelude.{◌≡◌, length};
 
 use lines::input::{MOST_KEPT, feed, finish};
 
 // After a chunk: how many bytes of an unfinished line are kept, and whether the answers could be written.
-#[derive(Drop)]
+#[derive(Clone, Copy)]
 struct ChunkPassed {
     kept: usize,
     going: bool,

@@ -7,7 +7,7 @@ ghost use Rattle.lines.specs.Feeding.{most_kept, Keeps, Steps, Feeds, Finishes};
 use crate::line::{MOST_ANSWER, MOST_LINE, answer_line};
 
 // How far a chunk is used, how many bytes of an unfinished line are kept, and how many bytes of answers are written.
-#[derive(Drop)]
+#[derive(Clone, Copy)]
 pub struct Fed {
     pub used: usize,
     pub kept: usize,

@@ -41,7 +41,7 @@ const KEYS: [u64; ROWS] = [
 const JOINTS: [u8; ROWS] = [b' ', b' ', b'.', b'.', b'*'];
 
 // How a notation writes.
-#[derive(Drop)]
+#[derive(Clone, Copy)]
 pub struct Style {
     // The number of the notation.
     pub notation: u8,

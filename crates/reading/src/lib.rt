@@ -1,2 +1,4 @@
 // Reading of a label, the public call.
+#![tactic(auto)]
+
 pub mod read;

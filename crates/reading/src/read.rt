@@ -13,7 +13,7 @@ use descent::terms::{COUNT, PLACES};
 use label::{MOST_TERMS, Tens};
 
 // What a reading has beside its arrays.
-#[derive(Drop)]
+#[derive(Clone, Copy)]
 pub struct Answer {
     // 0, or the number of the refusal.
     pub number: u8,

@@ -23,7 +23,7 @@ const NAME_LETTERS: u8 = MOST_LETTERS as u8;
 
 const PREFIX_LETTERS: u8 = 2;
 
-#[derive(Drop)]
+#[derive(Clone, Copy)]
 pub struct UnitForm {
     pub kind: u8,
     // The keys of its prefix and its name, 0 for none.

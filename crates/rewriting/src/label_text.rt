@@ -23,7 +23,7 @@ use symbols::prefix_table::prefix_codes;
 use symbols::unit_table::{name_codes, name_keys};
 
 // What a label is written with: the style of the target, and the power of ten of the factor.
-#[derive(Drop)]
+#[derive(Clone, Copy)]
 pub struct Target {
     pub style: Style,
     pub k: Tens,

@@ -1,4 +1,6 @@
 // Rewriting: the text that a notation writes for what was read in another, in a lent buffer.
+#![tactic(auto)]
+
 pub mod exponent_text;
 pub mod factor_text;
 pub mod figures;

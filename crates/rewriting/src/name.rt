@@ -14,14 +14,14 @@ use symbols::lookup::is_name;
 use symbols::unit_table::UNITS;
 
 // Where the names of a unit start and end in the table of names.
-#[derive(Drop)]
+#[derive(Clone, Copy)]
 pub struct NameRange {
     pub first: usize,
     pub end: usize,
 }
 
 // Letters: how many, and their key. More letters than a name has have the key 0.
-#[derive(Drop)]
+#[derive(Clone, Copy)]
 pub struct Own {
     pub size: usize,
     pub number: u64,

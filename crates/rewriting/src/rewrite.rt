@@ -17,7 +17,7 @@ use reading::read::read;
 
 // The number of the refusal, or 0 and how many bytes the result has.
 #[repr(C)]
-#[derive(Drop)]
+#[derive(Clone, Copy)]
 pub struct Rewritten {
     pub number: u32,
     pub length: u32,

@@ -18,7 +18,7 @@ use symbols::lookup::symbol;
 use symbols::{Span, SymbolAt};
 
 // A term of the source: its unit, and the letters of its name.
-#[derive(Drop)]
+#[derive(Clone, Copy)]
 pub struct SourceTerm {
     pub unit: SymbolAt,
     pub own: Own,

@@ -11,7 +11,7 @@ use symbols::lookup::prefix_named;
 use symbols::prefix_table::prefix_codes;
 
 // A spelling, by the place where it ends. Where there is none, `ok` is false and `end` is the place read from.
-#[derive(Drop)]
+#[derive(Clone, Copy)]
 pub struct SpellingAt {
     pub ok: bool,
     pub end: usize,

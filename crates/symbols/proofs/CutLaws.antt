@@ -99,6 +99,8 @@ one i c r (b ∷ []) cs o t e f = rw (eqb_swap b c) (go (eqb c b) f)
         → cut_by i (pick x (some r) none) ++ cs ≡ cut_with (pick (x && true) (some i) o) r
     go true f = rw (e, f refl) (append-nil (cut_by i (some r)))
     go false f = e
+one i c r [] cs o t e f = elim t [ ]
+one i c r (b ∷ (_ ∷ _)) cs o t e f = elim t [ ]
 
 -- the cuts by prefixes of one letter
 single_cuts : (i c : ℕ) (r : List ℕ) (ps : List Prefix) → T (single_letters ps)
@@ -113,6 +115,7 @@ single_cuts i c r (p ∷ ps) t =
   where
     untrue : (b : Bool) → T (not b) → b ≡ false
     untrue false t = refl
+    untrue true t = elim t [ ]
 
 -- two letters are no prefix of one
 no_single : (i c d : ℕ) (r : List ℕ) (ps : List Prefix) → T (single_letters ps) → placed i (c ∷ d ∷ r) ps ≡ none
@@ -124,6 +127,8 @@ no_single i c d r (p ∷ ps) t =
   where
     differs : (t : List ℕ) → T (is_letter t) → same (c ∷ d ∷ r) t ≡ false
     differs (b ∷ []) u = and_false (eqb c b)
+    differs [] u = elim u [ ]
+    differs (b ∷ (_ ∷ _)) u = elim u [ ]
 
 -- the cut by two letters
 two_cuts : (c d : ℕ) (r : List ℕ) → cut_by 0 (follows deca (c ∷ d ∷ r)) ≡ cut_list (prefix_cut 2 (c ∷ d ∷ r)) r

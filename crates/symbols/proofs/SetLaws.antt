@@ -21,6 +21,8 @@ pub alike_is : (a b : Bool) → T (alike a b) → a ≡ b
 unfolding alike
 alike_is true true t = refl
 alike_is false false t = refl
+alike_is false true t = elim t [ ]
+alike_is true false t = elim t [ ]
 
 -- a set of notations for which there is room, each of which its bits tell
 unfoldable pub told_by_bits : Notations → Bool

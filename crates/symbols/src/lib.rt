@@ -1,4 +1,6 @@
 // Spellings of units: constant tables of prefixes and known units, and the symbol that a spelling stands for.
+#![tactic(auto)]
+
 pub mod dimension_table;
 pub mod groups;
 pub mod keys;
@@ -9,7 +11,7 @@ pub mod size_table;
 pub mod unit_table;
 
 // What a spelling stands for.
-#[derive(Drop)]
+#[derive(Clone, Copy)]
 pub struct SymbolAt {
     // Whether its unit is known.
     pub known: bool,
@@ -23,14 +25,14 @@ pub struct SymbolAt {
 }
 
 // The bytes of a label from `start` up to `end`.
-#[derive(Drop)]
+#[derive(Clone, Copy)]
 pub struct Span {
     pub start: usize,
     pub end: usize,
 }
 
 // A spelling cut after its first letters.
-#[derive(Drop)]
+#[derive(Clone, Copy)]
 pub struct PrefixCut {
     // One more than the place of the prefix that these letters are; 0 where they are none or nothing follows them.
     pub prefix: u8,
@@ -39,7 +41,7 @@ pub struct PrefixCut {
 }
 
 // What the comparison of a spelling with a symbol of a table tells.
-#[derive(Drop)]
+#[derive(Clone, Copy)]
 pub struct Comparison {
     // Whether they have the same letters.
     pub equal: bool,

@@ -12,7 +12,7 @@ use scan::class::{both, byte_at, is_sign};
 use scan::run::{digits, zeros};
 
 // A factor from a place on, up to `next`, or none where `ok` is false.
-#[derive(Drop)]
+#[derive(Clone, Copy)]
 pub struct FactorAt {
     pub ok: bool,
     pub next: usize,

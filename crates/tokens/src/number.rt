@@ -7,14 +7,14 @@ use label::{DigitRange, SignedDigits};
 use scan::class::{byte_at, is_digit, is_nonzero, is_sign};
 
 // Digits from a place on, or none where `ok` is false.
-#[derive(Drop)]
+#[derive(Clone, Copy)]
 pub struct DigitsAt {
     pub ok: bool,
     pub digits: DigitRange,
 }
 
 // An integer from a place on, or none where `ok` is false.
-#[derive(Drop)]
+#[derive(Clone, Copy)]
 pub struct IntegerAt {
     pub ok: bool,
     pub integer: SignedDigits,

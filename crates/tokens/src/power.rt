@@ -10,7 +10,7 @@ use label::{DigitRange, Rules, SignedDigits, WrittenPower};
 use scan::class::{both, byte_at, is_digit, is_sign};
 
 // A power from a place on, up to `next`, or none where `ok` is false.
-#[derive(Drop)]
+#[derive(Clone, Copy)]
 pub struct PowerAt {
     pub ok: bool,
     pub next: usize,

@@ -9,7 +9,7 @@ use notations::rows::is_notation;
 use record::read_record::read_record;
 
 // What is known of a label before its end.
-#[derive(Drop)]
+#[derive(Clone, Copy)]
 pub struct Typing {
     pub notation: u32,
     // How many bytes have come, as far as 256.
@@ -20,7 +20,7 @@ pub struct Typing {
 }
 
 // The answer to a part or to an end, and the state after it.
-#[derive(Drop)]
+#[derive(Clone, Copy)]
 pub struct Sent {
     pub number: u32,
     pub state: Typing,

@@ -12,7 +12,7 @@ use label::{SignedDigits, Tens, WrittenFactor};
 const LARGEST_K: usize = 99;
 
 // A power of ten, or none where `ok` is false.
-#[derive(Drop)]
+#[derive(Clone, Copy)]
 pub struct MaybeTens {
     pub ok: bool,
     pub k: Tens,

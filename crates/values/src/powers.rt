@@ -14,7 +14,7 @@ use label::{Exponent, PARTS_OF_ONE, WrittenPower};
 const LARGEST_EXPONENT: u64 = 99 * PARTS_OF_ONE;
 
 // An exponent, or none where `ok` is false.
-#[derive(Drop)]
+#[derive(Clone, Copy)]
 pub struct MaybeExponent {
     pub ok: bool,
     pub exponent: Exponent,

@@ -10,7 +10,7 @@ use crate::digits::{are_short, is_short, number, number_from};
 use label::{DigitRange, SignedDigits, WrittenPower};
 
 // A power's sign, its size as a fraction, and whether its digit runs are short. The fraction is 0/1 where one is long.
-#[derive(Drop)]
+#[derive(Clone, Copy)]
 pub struct Quotient {
     pub negative: bool,
     pub numerator: u64,

@@ -28,10 +28,10 @@ fn write_conversion(buffer: &mut [u8], x: Conversion)
     put_all(&mut whole, 0, &numbers);
     if buffer.len() < CONVERSION_SIZE {
         let room = buffer.len();
-        bytes::copy(&whole[..room], buffer);
+        slices::copy(&whole[..room], buffer);
         return;
     }
-    bytes::copy(&whole, buffer);
+    slices::copy(&whole, buffer);
 }
 
 // Converts from the first label to the second and answers the number of the refusal, or 0 and the conversion's record in the lent buffer.

@@ -7,7 +7,7 @@ use lib.ListN.{length, take, drop, length-append, length-drop, length-take, drop
 use lib.Seq.{take_all, length-take-le, take-append_seam, take-append-add, drop-drop}
 use borrow.Rule.Slice.PartMut.{mid_of, put_mid}
 use borrow.Author.Tests.{lt-ltb, le-ltb}
-use Rattle.bytes.specs.Bytes.{index_of, slice}
+use Rattle.slices.specs.Slices.{index_of, slice}
 use Rattle.label.specs.Bytes.{newline}
 use Rattle.label.specs.Lines.{answers, output_after}
 use Rattle.lines.specs.declared.input.Fed.{Fed}

@@ -8,7 +8,7 @@ use lib.Dec.{leb, eqb}
 use lib.ListN.{length, drop, length-drop}
 use lib.Seq.{take_all, drop-drop}
 use borrow.Author.Tests.{le-leb, lt-leb, lt-ltb, le-ltb, eq-eqb, ne_eqb}
-use Rattle.bytes.specs.Bytes.{index_of, slice}
+use Rattle.slices.specs.Slices.{index_of, slice}
 use Rattle.label.specs.Bytes.{tab}
 use Rattle.label.specs.Ranges.{between}
 use Rattle.label.specs.Writing.{rewriting}

@@ -8,7 +8,7 @@ use mathlib.Core.List.{List, [], ◌∷◌, ◌++◌, append_assoc}
 use lib.Dec.{eqb}
 use lib.ListN.{length, take, drop}
 use lib.Seq.{take_all, length-take-le}
-use Rattle.bytes.specs.Bytes.{index_of}
+use Rattle.slices.specs.Slices.{index_of}
 use Rattle.label.specs.Bytes.{newline}
 use Rattle.label.specs.Lines.{parts, last_line, answer, answers, output_after, most_line}
 use Rattle.lines.specs.Feeding.{most_kept}

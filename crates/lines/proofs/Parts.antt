@@ -7,7 +7,7 @@ use mathlib.Core.List.{List, [], ◌∷◌, ◌++◌, append-nil}
 use lib.Dec.{eqb}
 use lib.ListN.{length, take, drop}
 use lib.Seq.{append_snoc}
-use Rattle.bytes.specs.Bytes.{index_of, index_after}
+use Rattle.slices.specs.Slices.{index_of, index_after}
 use Rattle.label.specs.Lines.{parts}
 
 module _ (b : ℕ) (end : List ℕ → List (List ℕ)) where

@@ -30,10 +30,10 @@ fn keep_bytes(bytes: &[u8], line: &mut [u8], kept: usize) -> usize
     }
     let room = MOST_KEPT - kept;
     if room < bytes.len() {
-        bytes::copy(&bytes[0..room], &mut line[kept..]);
+        slices::copy(&bytes[0..room], &mut line[kept..]);
         return MOST_KEPT;
     }
-    bytes::copy(bytes, &mut line[kept..]);
+    slices::copy(bytes, &mut line[kept..]);
     kept + bytes.len()
 }
 
@@ -52,7 +52,7 @@ fn step(chunk: &[u8], line: &mut [u8], kept: usize, out: &mut [u8]) -> Fed
     requires { (length line.old ≡ most_kept) × (most_answer < length out.old) }
     ensures { Steps chunk.now line.old kept out.old line.new out.new result }
 {
-    let end = bytes::scan::find(chunk, 0, chunk.len(), b'\n');
+    let end = slices::find(chunk, 0, chunk.len(), b'\n');
     let size = keep_bytes(&chunk[0..end], line, kept);
     if chunk.len() <= end {
         return Fed {

@@ -26,7 +26,7 @@ fn field_end(line: &[u8], from: usize) -> usize
     requires { from ≤ length line.now }
     ensures { FieldEnd line.now from result }
 {
-    bytes::scan::find(line, from, line.len(), b'\t')
+    slices::find(line, from, line.len(), b'\t')
 }
 
 // Rewrites a text into a buffer that has room for every result.
@@ -45,7 +45,7 @@ fn put_answer(id: &[u8], source: &[u8], text: &[u8], target: &[u8], out: &mut [u
         out.old out.new result }
     ensures upper_bound { result ≤ most_answer }
 {
-    let number_at = bytes::copy(id, out);
+    let number_at = slices::copy(id, out);
     let result_at = number_at + ZERO_SIZE;
     let from = notation_named(source);
     let to = notation_named(target);

@@ -32,7 +32,7 @@ pub fn write_record(
         let mut whole = [0; RECORD_SIZE];
         put_record(&mut whole, a, places, exponents, names, sums);
         let room = buffer.len();
-        bytes::copy(&whole[..room], buffer);
+        slices::copy(&whole[..room], buffer);
         return;
     }
     put_record(

@@ -56,11 +56,11 @@ buffer_as b d e w = rw e w
 
 -- what a copy of the first bytes of a text leaves
 pub copied : (t c d : List ℕ) (end : ℕ) → end ≤ length t
-    → d ≡ take (length (between t 0 end)) (between t 0 end) ++ drop (length (between t 0 end)) c → d ≡ take end t ++ drop end c
+    → d ≡ between t 0 end ++ drop (length (between t 0 end)) c → d ≡ take end t ++ drop end c
 copied t c d end h e =
     let f : end - 0 ≡ end = omega arith in
     let n : length (between t 0 end) ≡ end = length_between t 0 end h ∙ f in
-    e ∙ rw (n, take_all end (between t 0 end) (rw n (omega arith)), f)
+    e ∙ rw (n, f)
 
 -- A WRITTEN TEXT
 

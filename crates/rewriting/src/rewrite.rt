@@ -48,7 +48,7 @@ fn deliver(text: &[u8], end: usize, buffer: &mut [u8]) -> Rewritten
             length: 0,
         };
     }
-    bytes::copy(&text[0..end], buffer);
+    slices::copy(&text[0..end], buffer);
     Rewritten {
         number: 0,
         length: end as u32,

@@ -48,7 +48,7 @@ fn load_state(b: &[u8]) -> Typing
         return t;
     }
     let mut room = t.room;
-    bytes::copy(&b[ROOM_OFFSET..STATE_SIZE], &mut room);
+    slices::copy(&b[ROOM_OFFSET..STATE_SIZE], &mut room);
     t.notation = four_bytes_at(b, 0);
     t.count = four_bytes_at(b, COUNT_OFFSET);
     t.ended = b[ENDED_OFFSET] != 0;
@@ -83,8 +83,8 @@ fn store_state(t: Typing, b: &mut [u8])
 {
     let head = state_head(t);
     let room = t.room;
-    bytes::copy(&head, b);
-    bytes::copy(&room, &mut b[ROOM_OFFSET..]);
+    slices::copy(&head, b);
+    slices::copy(&room, &mut b[ROOM_OFFSET..]);
 }
 
 // Writes a fresh state into lent bytes.

@@ -75,10 +75,10 @@ fn put_part(room: &mut [u8], at: usize, part: &[u8])
     }
     let left = room.len() - at;
     if left < part.len() {
-        bytes::copy(&part[0..left], &mut room[at..]);
+        slices::copy(&part[0..left], &mut room[at..]);
         return;
     }
-    bytes::copy(part, &mut room[at..]);
+    slices::copy(part, &mut room[at..]);
 }
 
 // Takes a part of the label, which may be empty.

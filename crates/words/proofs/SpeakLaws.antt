@@ -71,10 +71,10 @@ module _ {t : List ℕ} {end : ℕ} (ws : List Word) (w : HoldsBytes t end (spac
 
   -- what a copy of them leaves
   pub words_copied : (size : ℕ) (c d : List ℕ) → end - 1 ≤ size
-      → d ≡ take (length (between t 1 end)) (between t 1 end) ++ drop (length (between t 1 end)) c → d ≡ buffer_with (fitted size (words_answer ws)) c
+      → d ≡ between t 1 end ++ drop (length (between t 1 end)) c → d ≡ buffer_with (fitted size (words_answer ws)) c
   unfolding buffer_with
   words_copied size c d h e =
-      e ∙ rw (words_fit size h, ← words_there) (ap (λ (l : List ℕ). l ++ drop (length (joined_words ws)) c) (take_all (length (joined_words ws)) (joined_words ws) (omega arith)))
+      e ∙ rw (words_fit size h, ← words_there) refl
 
 -- A LABEL THAT IS READ
 

@@ -40,7 +40,7 @@ fn deliver_words(text: &[u8], end: usize, buffer: &mut [u8]) -> Rewritten
             length: 0,
         };
     }
-    bytes::copy(&text[1..end], buffer);
+    slices::copy(&text[1..end], buffer);
     Rewritten {
         number: 0,
         length: size as u32,

@@ -1,0 +1,19 @@
+-- `typing::lent_state::store_state` meets its contract: the head, and then the room.
+use native.Mathlib.Omega.{arith}
+use mathlib.Core.Path.{◌≡◌}
+use lib.ListN.{length}
+use Rattle.label.specs.Limits.{most_bytes}
+use Rattle.typing.proofs.LentSteps.{room_after_head, state_stored}
+use borrow.Author.Rules.{rules}
+use Rattle.typing.proofs.lent_state.store_state.Goals as goal
+
+full : (start : tie.Start) → length start.args.t.room ≡ most_bytes
+full start = search rules
+
+pub copy-requires-2 : goal.copy-requires-2
+copy-requires-2 c =
+    room_after_head c.copy.new.target (length c.args.t.room) (omega (arith, c.copy.auto)) (full start)
+
+pub returns : goal.returns
+returns c =
+    state_stored c.args.t c.state_head-head.result c.args.b.now c.copy.new.target c.copy-2.new.target (full start) c.state_head-head.ensures c.copy.ensures.bytes c.copy-2.ensures.bytes

@@ -2,11 +2,11 @@
 use Rattle.std.specs.Prelude.{ℕ, suc, ◌-◌, Bool, true, false, List, [], ◌∷◌, eqb, take, drop}
 
 -- the part from one place to another
-abbrev pub slice : ℕ → ℕ → List ℕ → List ℕ
+unfoldable pub slice : ℕ → ℕ → List ℕ → List ℕ
 slice from to s = take (to - from) (drop from s)
 
 -- one step of a search: the byte is here, or after it
-abbrev pub index_after : Bool → ℕ → ℕ
+unfoldable pub index_after : Bool → ℕ → ℕ
 index_after true n = 0
 index_after false n = suc n
 

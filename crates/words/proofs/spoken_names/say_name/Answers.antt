@@ -8,6 +8,9 @@ use Rattle.words.proofs.SpeechLaws.{words_as}
 use Rattle.words.proofs.NameRows.{column_size, name_there, no_name_there}
 use Rattle.words.proofs.spoken_names.say_name.Goals as goal
 
+pub shape_of-text-then-names-start : goal.shape_of-text-then-names-start
+shape_of-text-then-names-start c = c.say.ensures.says.kept
+
 pub returns-then-names-start : goal.returns-then-names-start
 returns-then-names-start c =
     let e = ap length c.requires ∙ column_size in
@@ -27,6 +30,7 @@ shape_of-text c = c.say-2.ensures.says.kept
 
 pub returns : goal.returns
 returns c =
+    let q = c.requires in
     let e = ap length q ∙ column_size in
     let r = rw q at c.letters-end.ensures in
     words_as (ap (λ (x : Word). x ∷ []) (sym (name_there _ (omega (arith, e, c.if-names-start.false)) r))) (rw q at c.say-2.ensures)

@@ -17,6 +17,10 @@ returns-then-size-eq0 c =
     let held = to_z-of_z k_fits in
     words_as (factor_unsaid _ (c.magnitude-size.ensures.0 ∙ ap nat_abs held) c.if-size-eq0.true) no_words
 
+pub shape_of-text : goal.shape_of-text
+shape_of-text c =
+    c.say_integer.ensures.says.kept ∙ c.say_to_the-number.ensures.says.kept ∙ c.say-to.ensures.says.kept
+
 pub returns : goal.returns
 unfolding bytes
 returns c =

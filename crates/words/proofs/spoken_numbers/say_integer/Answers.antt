@@ -1,7 +1,11 @@
 -- `words::spoken_numbers::say_integer` meets its contract: "minus" or nothing, and the number.
+use mathlib.Core.Path.{◌∙◌}
 use Rattle.label.specs.Bytes.{bytes}
 use Rattle.words.proofs.SpeechLaws.{more_words}
 use Rattle.words.proofs.spoken_numbers.say_integer.Goals as goal
+
+pub shape_of-text-then-negative : goal.shape_of-text-then-negative
+shape_of-text-then-negative c = c.say_number.ensures.says.kept ∙ c.say-number.ensures.says.kept
 
 pub returns-then-negative : goal.returns-then-negative
 unfolding bytes

@@ -1,8 +1,15 @@
 -- `words::spoken_numbers::say_over` meets its contract: nothing, or "over" and the number.
-use borrow.Author.Tests.{ne_eqb}
+use mathlib.Core.Path.{◌∙◌}
+use borrow.Author.Tests.{eq-eqb, ne_eqb}
 use Rattle.label.specs.Bytes.{bytes}
-use Rattle.words.proofs.SpeechLaws.{more_words}
+use Rattle.words.proofs.SpeechLaws.{no_words, more_words}
 use Rattle.words.proofs.spoken_numbers.say_over.Goals as goal
+
+pub returns-then-d-eq1 : goal.returns-then-d-eq1
+returns-then-d-eq1 c = rw (eq-eqb _ 1 c.if-d-eq1.true) no_words
+
+pub shape_of-text : goal.shape_of-text
+shape_of-text c = c.say_number.ensures.says.kept ∙ c.say-number.ensures.says.kept
 
 pub returns : goal.returns
 unfolding bytes

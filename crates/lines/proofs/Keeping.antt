@@ -24,12 +24,12 @@ keeps_none u line kept full h = record {
 }
 
 module _ (line p t : List ℕ) (kept : ℕ) (full : length line ≡ most_kept) (fits : kept + length t ≤ most_kept)
-    (copied : p ≡ take (length t) t ++ drop (length t) (mid_of kept (length line - kept) line)) where
+    (copied : p ≡ t ++ drop (length t) (mid_of kept (length line - kept) line)) where
   abbrev line' : List ℕ
   line' = put_mid kept (length line - kept) line p
 
   puts : Puts t (mid_of kept (length line - kept) line) p (length t)
-  puts = record { size_is = refl; bytes_are = copied ∙ ap (λ (x : List ℕ). x ++ drop (length t) (mid_of kept (length line - kept) line)) (take-length t) }
+  puts = record { size_is = refl; bytes_are = copied }
 
   front : length (take kept line) ≡ kept
   front = length-take-le kept line (omega arith)

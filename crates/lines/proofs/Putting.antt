@@ -122,7 +122,7 @@ module _ (id num text b b₁ b₂ b₃ : List ℕ) (copied : b₁ ≡ over id b)
 
 -- THE ANSWER
 
-module _ (id b b₁ p₂ p₃ : List ℕ) (r : Rewriting) (bounded : BoundedRewriting r) (copied : b₁ ≡ take (length id) id ++ drop (length id) b) (room : length id + 3 ≤ length b₁) where
+module _ (id b b₁ p₂ p₃ : List ℕ) (r : Rewriting) (bounded : BoundedRewriting r) (copied : b₁ ≡ over id b) (room : length id + 3 ≤ length b₁) where
   abbrev b₂ : List ℕ
   b₂ = put_mid (length id + 3) (length b₁ - (length id + 3)) b₁ p₂
 
@@ -133,9 +133,6 @@ module _ (id b b₁ p₂ p₃ : List ℕ) (r : Rewriting) (bounded : BoundedRewr
       → Puts (number_text r.number) (mid_of (length id) (length b₂ - length id) b₂) p₃ size → b₃ ≡ over (id ++ (number_text r.number ++ r.text)) b
   bytes_put size result_size result number = go (dec_lt r.number 10)
     where
-      first : b₁ ≡ over id b
-      first = copied ∙ ap (λ (x : List ℕ). x ++ drop (length id) b) (take-length id)
-
       second : b₂ ≡ take (length id + 3) b₁ ++ over r.text (drop (length id + 3) b₁)
       second = tail_put (length id + 3) b₁ p₂ r.text result_size result
 
@@ -143,8 +140,8 @@ module _ (id b b₁ p₂ p₃ : List ℕ) (r : Rewriting) (bounded : BoundedRewr
       third = tail_put (length id) b₂ p₃ (number_text r.number) size number
 
       go : Dec (r.number < 10) → b₃ ≡ over (id ++ (number_text r.number ++ r.text)) b
-      go (yes h) = three_between id (number_text r.number) r.text b b₁ b₂ b₃ first third (number_one_digit r.number h) room second
-      go (no h) = nothing_after id (number_text r.number) r.text b b₁ b₂ b₃ first third (bounded.empty (omega arith)) second
+      go (yes h) = three_between id (number_text r.number) r.text b b₁ b₂ b₃ copied third (number_one_digit r.number h) room second
+      go (no h) = nothing_after id (number_text r.number) r.text b b₁ b₂ b₃ copied third (bounded.empty (omega arith)) second
 
   pub answer_put : (at size result_size : ℕ) → at ≡ length id
       → Puts r.text (mid_of (at + 3) (length b₁ - (at + 3)) b₁) p₂ result_size

@@ -51,12 +51,12 @@ pub room_after_head : (b : List ℕ) (n : ℕ) → state_size ≤ length b → n
 room_after_head b n l e = omega (arith, length-take (length b - room_offset) (drop room_offset b), length-drop room_offset b)
 
 -- the head is copied, and then the room
-pub state_stored : (t : Typing) (h b c p : List ℕ) → length t.room ≡ most_bytes → h ≡ state_head t → c ≡ take (length h) h ++ drop (length h) b
-    → p ≡ take (length t.room) t.room ++ drop (length t.room) (mid_of room_offset (length c - room_offset) c)
+pub state_stored : (t : Typing) (h b c p : List ℕ) → length t.room ≡ most_bytes → h ≡ state_head t → c ≡ h ++ drop (length h) b
+    → p ≡ t.room ++ drop (length t.room) (mid_of room_offset (length c - room_offset) c)
     → put_mid room_offset (length c - room_offset) c p ≡ replaced b t
 state_stored t h b c p full e copied filled =
     let size : length h ≡ room_offset = ap length e ∙ head_length t in
-    let whole : c ≡ h ++ drop room_offset b = copied ∙ ap (λ (x : List ℕ). x ++ drop (length h) b) (take-length h) ∙ ap (λ (n : ℕ). h ++ drop n b) size in
+    let whole : c ≡ h ++ drop room_offset b = copied ∙ ap (λ (n : ℕ). h ++ drop n b) size in
     let rest : drop (length t.room) (drop room_offset b) ≡ drop state_size b = ap (λ (n : ℕ). drop n (drop room_offset b)) full ∙ drop-drop most_bytes room_offset b in
     put_tail room_offset c t.room p filled
     ∙ ap (λ (x : List ℕ). take room_offset x ++ (t.room ++ drop (length t.room) (drop room_offset x))) whole
@@ -77,7 +77,7 @@ module _ (b : List ℕ) where
 
   pub state_loaded : (n k : ℕ) (r old : List ℕ) → state_size ≤ length b → length old ≡ most_bytes → n ≡ value (take number_bytes b)
       → k ≡ value (take number_bytes (drop count_offset b))
-      → r ≡ take (length (take most_bytes (drop room_offset b))) (take most_bytes (drop room_offset b)) ++ drop (length (take most_bytes (drop room_offset b))) old
+      → r ≡ take most_bytes (drop room_offset b) ++ drop (length (take most_bytes (drop room_offset b))) old
       → record { notation = n; count = k; ended = not (eqb (get_or b ended_offset 0) 0); room = r } ≡ lent_state b
   unfolding state_in
   state_loaded n k r old l full e f g =
@@ -85,7 +85,6 @@ module _ (b : List ℕ) where
       let size : length part ≡ most_bytes = length-take-le most_bytes (drop room_offset b) (omega (arith, length-drop room_offset b)) in
       let room : r ≡ part =
       g
-      ∙ ap (λ (x : List ℕ). x ++ drop (length part) old) (take-length part)
       ∙ ap (λ (x : List ℕ). part ++ x) (drop_of_length-le old {i = length part} (omega (arith, size, full)))
       ∙ append-nil part in
       (λ i. record { notation = e i; count = f i; ended = not (eqb (get_or b ended_offset 0) 0); room = room i }) ∙ sym (lent_state_long b l)

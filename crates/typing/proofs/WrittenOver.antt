@@ -76,21 +76,21 @@ module _ (s u z : List ℕ) where
 -- LENT FROM A PLACE ON
 
 -- t is copied into the bytes of b from place a on, which p are afterwards
-pub put_tail : (a : ℕ) (b t p : List ℕ) → p ≡ take (length t) t ++ drop (length t) (mid_of a (length b - a) b)
+pub put_tail : (a : ℕ) (b t p : List ℕ) → p ≡ t ++ drop (length t) (mid_of a (length b - a) b)
     → put_mid a (length b - a) b p ≡ take a b ++ (t ++ drop (length t) (drop a b))
 put_tail a b t p e =
     let lent : mid_of a (length b - a) b ≡ drop a b = take_all (length b - a) (drop a b) (omega (arith, length-drop a b)) in
-    let q : p ≡ t ++ drop (length t) (drop a b) = e ∙ ap (λ (x : List ℕ). x ++ drop (length t) (mid_of a (length b - a) b)) (take-length t) ∙ ap (λ (x : List ℕ). t ++ drop (length t) x) lent in
+    let q : p ≡ t ++ drop (length t) (drop a b) = e ∙ ap (λ (x : List ℕ). t ++ drop (length t) x) lent in
     rw (drop_of_length-le (drop a b) {i = length b - a} (omega (arith, length-drop a b)), append-nil p) (ap (λ (x : List ℕ). take a b ++ x) q)
 
 module _ (a : ℕ) (b u p : List ℕ) where
   -- all of a part has room
-  pub part_fits : length u ≤ length b - a → p ≡ take (length u) u ++ drop (length u) (mid_of a (length b - a) b) → put_mid a (length b - a) b p ≡ written_from a u b
+  pub part_fits : length u ≤ length b - a → p ≡ u ++ drop (length u) (mid_of a (length b - a) b) → put_mid a (length b - a) b p ≡ written_from a u b
   part_fits h e = put_tail a b u p e ∙ ap (λ (x : List ℕ). take a b ++ x) (sym (written_fitting u (drop a b) (omega (arith, length-drop a b))))
 
   -- as much of a part as has room
   pub part_cut : (t : List ℕ) (n : ℕ) → t ≡ take n u → length t ≡ n → n ≡ length b - a → n ≤ length u
-      → p ≡ take (length t) t ++ drop (length t) (mid_of a (length b - a) b) → put_mid a (length b - a) b p ≡ written_from a u b
+      → p ≡ t ++ drop (length t) (mid_of a (length b - a) b) → put_mid a (length b - a) b p ≡ written_from a u b
   part_cut t n same l room h e =
       let left : n ≡ length (drop a b) = room ∙ sym (length-drop a b) in
       put_tail a b t p e

@@ -19,7 +19,7 @@ loop-used-smaller c =
 
 pub loop-used-preserved : goal.loop-used-preserved
 loop-used-preserved c =
-    let r : Fed = record { used = c.loop-used.used; kept = c.loop-used.auto; written = c.loop-used.written } in
+    let r : Fed = record { used = c.loop-used.used; kept = c.loop-used.kept; written = c.loop-used.written } in
     let same = c.step-r.auto.out in (
       same_len_mid c.loop-used.written (length c.loop-used.out - c.loop-used.written) c.loop-used.out c.step-r.new.out same ∙ c.loop-used.invariant.0,
       (λ h. omega (arith, step_moves c.args.chunk.now c.loop-used.used (omega arith) c.step-r.ensures)),

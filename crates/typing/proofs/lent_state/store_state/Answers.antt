@@ -7,13 +7,12 @@ use Rattle.typing.proofs.LentSteps.{room_after_head, state_stored}
 use borrow.Author.Rules.{rules}
 use Rattle.typing.proofs.lent_state.store_state.Goals as goal
 
-full : (start : tie.Start) → length start.args.t.room ≡ most_bytes
-full start = search rules
-
 pub copy-requires-2 : goal.copy-requires-2
 copy-requires-2 c =
-    room_after_head c.copy.new.target (length c.args.t.room) (omega (arith, c.copy.auto)) (full start)
+    let full : length c.args.t.room ≡ most_bytes = search rules in
+    room_after_head c.copy.new.target (length c.args.t.room) (omega (arith, c.copy.auto)) full
 
 pub returns : goal.returns
 returns c =
-    state_stored c.args.t c.state_head-head.result c.args.b.now c.copy.new.target c.copy-2.new.target (full start) c.state_head-head.ensures c.copy.ensures.bytes c.copy-2.ensures.bytes
+    let full : length c.args.t.room ≡ most_bytes = search rules in
+    state_stored c.args.t c.state_head-head.result c.args.b.now c.copy.new.target c.copy-2.new.target full c.state_head-head.ensures c.copy.ensures.bytes c.copy-2.ensures.bytes

@@ -11,9 +11,6 @@ use Rattle.typing.proofs.PartSteps.{read_short, long_answer}
 use borrow.Author.Rules.{rules}
 use Rattle.typing.proofs.state.read_typed.Goals as goal
 
-full : (start : tie.Start) → length start.args.t.room ≡ most_bytes
-full start = search rules
-
 pub returns-then-is_notation : goal.returns-then-is_notation
 returns-then-is_notation c =
     let all = long_answer c.args.t c.if-size-gt-MOST_BYTES.true c.args.buffer.now true (sym c.is_notation.ensures ∙ c.if-is_notation.true) in
@@ -26,7 +23,8 @@ returns-then-size-gt-MOST_BYTES c =
 
 pub slice_bounds-read_record-end : goal.slice_bounds-read_record-end
 slice_bounds-read_record-end c =
-    let within : c.args.t.count ≤ length c.args.t.room = omega (arith, full start) in
+    let full : length c.args.t.room ≡ most_bytes = search rules in
+    let within : c.args.t.count ≤ length c.args.t.room = omega (arith, full) in
     within
 
 pub returns : goal.returns

@@ -198,6 +198,7 @@ fn starlink_rules() -> Rules
 }
 
 // The rules of notation `n`. A row for each is quicker than sets: a reading asks for them once, and they are constants.
+#[tactic(auto, using(crate::proofs::Numbers::in_range), unfolding(label::specs::Rows::rules_of, label::specs::Rows::value_among, label::specs::Rows::ruled))]
 pub fn rules(n: u8) -> Rules
     requires { notation n ≡ true }
     ensures { rules_of n ≡ some result }

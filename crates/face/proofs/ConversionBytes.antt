@@ -38,13 +38,13 @@ module _ (x : Conversion) (n : x.number < 2 ^ 8) (h : (x.numerator < 2 ^ 63) × 
     record_is = sym (take_all conversion_size w (omega (arith, l))) ∙ e ∙ ap encoded held_are
 
     module _ (b : List ℕ) {c : List ℕ} where
-      pub short_buffer : length b < conversion_size → c ≡ take (length (take (length b) w)) (take (length b) w) ++ drop (length (take (length b) w)) b
+      pub short_buffer : length b < conversion_size → c ≡ take (length b) w ++ drop (length (take (length b) w)) b
           → c ≡ written_over (conversion_record (conversion_in x)) b
       short_buffer g q = over_short w b (omega (arith, l)) q ∙ ap (λ (xs : List ℕ). written_over xs b) record_is
 
-      pub long_buffer : conversion_size ≤ length b → c ≡ take (length w) w ++ drop (length w) b → c ≡ written_over (conversion_record (conversion_in x)) b
+      pub long_buffer : conversion_size ≤ length b → c ≡ w ++ drop (length w) b → c ≡ written_over (conversion_record (conversion_in x)) b
       unfolding written_over
-      long_buffer g q = q ∙ rw (take-length w) (ap (λ (xs : List ℕ). xs ++ drop (length w) b) (sym (take_all (length b) w (omega (arith, l))))) ∙ ap (λ (xs : List ℕ). written_over xs b) record_is
+      long_buffer g q = q ∙ (ap (λ (xs : List ℕ). xs ++ drop (length w) b) (sym (take_all (length b) w (omega (arith, l))))) ∙ ap (λ (xs : List ℕ). written_over xs b) record_is
 
 -- THE ANSWER
 

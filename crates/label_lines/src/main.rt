@@ -4,6 +4,10 @@
 ghost use Rattle.std.specs.Prelude.{◌≡◌, length};
 
 use lines::input::{MOST_KEPT, feed, finish};
+use std::io::{Read, Write};
+
+// How many bytes are read at once, and how many bytes of answers are written at once.
+const BUFFER_SIZE: usize = 65536;
 
 // After a chunk: how many bytes of an unfinished line are kept, and whether the answers could be written.
 #[derive(Clone, Copy)]
@@ -13,7 +17,13 @@ struct ChunkPassed {
 }
 
 // Uses a chunk to its end. The answers are written as often as the buffer for them is full, and after the chunk.
-fn pass(chunk: &[u8], line: &mut [u8; MOST_KEPT], kept: usize, out: &mut [u8]) -> ChunkPassed
+fn pass<W: Write>(
+    chunk: &[u8],
+    line: &mut [u8; MOST_KEPT],
+    kept: usize,
+    out: &mut [u8],
+    writer: &mut W,
+) -> ChunkPassed
     requires { length out.old ≡ 65536 }
 {
     let mut used = 0;
@@ -24,7 +34,7 @@ fn pass(chunk: &[u8], line: &mut [u8; MOST_KEPT], kept: usize, out: &mut [u8]) -
         }
         let r = feed(&chunk[used..], line, held, out);
         let written = r.written;
-        if !io::write_all(1, &out[0..written]) {
+        if writer.write_all(&out[0..written]).is_err() {
             return ChunkPassed {
                 kept: 0,
                 going: false,
@@ -40,41 +50,45 @@ fn pass(chunk: &[u8], line: &mut [u8; MOST_KEPT], kept: usize, out: &mut [u8]) -
 }
 
 // Answers the last line where it has no newline.
-fn end(line: &[u8; MOST_KEPT], kept: usize, out: &mut [u8]) -> bool {
+fn end<W: Write>(line: &[u8; MOST_KEPT], kept: usize, out: &mut [u8], writer: &mut W) -> bool {
     let written = finish(line, kept, out);
-    io::write_all(1, &out[0..written])
+    writer.write_all(&out[0..written]).is_ok()
 }
 
 // Reads to the end of the input, and answers whether all could be read and written. The turns are more than a program makes.
-fn answer_all(input: &mut [u8], line: &mut [u8; MOST_KEPT], out: &mut [u8]) -> bool
+fn answer_all<R: Read, W: Write>(
+    reader: &mut R,
+    input: &mut [u8],
+    line: &mut [u8; MOST_KEPT],
+    out: &mut [u8],
+    writer: &mut W,
+) -> bool
     requires { length out.old ≡ 65536 }
 {
     let mut kept = 0;
-    let mut turns = u64::MAX;
-    while turns > 0 {
-        let got = libc::read(0, input);
-        if got < 0 {
+    for _ in 0..u64::MAX {
+        let Ok(n) = reader.read(input) else {
             return false;
-        }
-        let n = io::count(got, input);
+        };
         if n == 0 {
-            return end(line, kept, out);
+            return end(line, kept, out, writer);
         }
-        let passed = pass(&input[0..n], line, kept, out);
+        let passed = pass(&input[0..n], line, kept, out, writer);
         if !passed.going {
             return false;
         }
         kept = passed.kept;
-        turns -= 1;
     }
     false
 }
 
-fn main() {
-    let mut input = io::large_buffer();
-    let mut out = io::large_buffer();
+fn main(rt: HostRuntime) {
+    let mut input = [0u8; BUFFER_SIZE];
+    let mut out = [0u8; BUFFER_SIZE];
     let mut line = [0u8; MOST_KEPT];
-    if !answer_all(&mut input, &mut line, &mut out) {
-        io::write_all(2, b"label-lines: input or output failed\n");
+    let mut reader = rt.stdin();
+    let mut writer = rt.stdout();
+    if !answer_all(&mut reader, &mut input, &mut line, &mut out, &mut writer) {
+        let _ = rt.eprintln("label-lines: input or output failed");
     }
 }

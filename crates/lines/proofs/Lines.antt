@@ -23,7 +23,7 @@ use Rattle.lines.proofs.Parts.{parts_found, parts_missing}
 -- the rest of a line, from a place
 pub rest_of : (s : List ℕ) (from to : ℕ) → length s ≤ to → slice from to s ≡ drop from s
 unfolding slice
-rest_of s from to h = rw (take_all to s h)
+rest_of s from to h = take_all (to - from) (drop from s) (omega (arith, length-drop from s))
 
 module _ (s : List ℕ) (from r : ℕ) (begins : from ≤ length s) (is : r ≡ from + index_of tab (slice from (length s) s)) (ends : r ≤ length s) where
   place : r ≡ from + index_of tab (drop from s)

@@ -16,7 +16,7 @@ use Rattle.label.specs.Notations.{notation}
 use Rattle.label.specs.Rows.{rules_of}
 use Rattle.label.specs.Lexical.{Part}
 use Rattle.label.specs.Limits.{k_of, most_bytes, most_terms, most_brackets, deepest}
-use Rattle.label.specs.Parse.{parse, parse_with, refused}
+use Rattle.label.specs.Parse.{parse, parse_with}
 use Rattle.label.specs.Ranges.{factor_in}
 use Rattle.label.specs.Split.{Placed, valued_units, valued_with, valued}
 use Rattle.label.specs.Reading.{refuse, accept, unless, check_counts, check_values, check_grammar, checked}

@@ -18,7 +18,7 @@ use Rattle.label.proofs.Basics.{T→true}
 use Rattle.label.proofs.Computing.{symbols_compute}
 use Rattle.label.proofs.General.{SpellingBy}
 use Rattle.label.proofs.Ruled.{RuledBy}
-use Rattle.label.proofs.Owned.{OwnedBy, quoted_as, QuotedAs, unquoted_owned, letters_owned, letters_all, all_letters, all_right}
+use Rattle.label.proofs.Owned.{OwnedBy, quoted_as, QuotedAs, letters_owned, letters_all, all_letters, all_right}
 
 -- of a spelling of so many bytes
 pub data Speakable (n size : ℕ) : Symbol → Type 0 where

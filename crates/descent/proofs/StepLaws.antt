@@ -9,7 +9,7 @@ use lib.ListN.{length, drop, get_or, length-drop}
 use borrow.Author.Tests.{ne_eqb, not-true, not-false}
 use Rattle.label.specs.declared.Rules.{Rules}
 use Rattle.label.specs.Choice.{pick}
-use Rattle.label.specs.Lexical.{Part, Kind, item, more, product, quotient}
+use Rattle.label.specs.Lexical.{Part, item, more, product, quotient}
 use Rattle.label.specs.Limits.{exponent_of}
 use Rattle.label.specs.Bytes.{open_bracket, close_bracket, slash}
 use Rattle.label.specs.Parse.{Found, none, found, then, mapped, closed, exponent, spelling, unit, appended, chained, item_at, item_by, more_at, product_at, quotient_on, inside, read}

@@ -8,7 +8,7 @@ use lib.ListN.{length, length-append}
 use Rattle.label.specs.declared.Rules.{Rules}
 use Rattle.label.specs.Bytes.{letter, close_bracket, open_bracket, quote, slash}
 use Rattle.label.specs.Lexical.{Written, Part, part, turned_all, Kind, item, more, product, quotient, Letters, letters, quoted, prefixed}
-use Rattle.label.specs.Parse.{Found, found, then, mapped, byte, closed, unit, stop, times, over, joint, appended, chained, item_at, item_by, more_at, product_at, quotient_on, inside, read}
+use Rattle.label.specs.Parse.{Found, found, then, mapped, byte, closed, unit, stop, joint, appended, chained, item_at, item_by, more_at, product_at, quotient_on, inside, read}
 use Rattle.label.proofs.Basics.{T_not, differs, Ends}
 use Rattle.label.proofs.Signs.{by, by_append, by_nil, by_turned, by_part}
 use Rattle.label.proofs.General.{SpellingBy, ExponentBy, G}

@@ -13,7 +13,7 @@ use borrow.Author.Tests.{eqb-true, leb-true, leb-false, le-leb}
 use Rattle.label.specs.declared.Exponent.{Exponent}
 use Rattle.label.specs.Bytes.{digit, nonzero, all}
 use Rattle.label.specs.Lexical.{Unsigned}
-use Rattle.label.specs.Limits.{number_from, number, signed, sixtieths, exponent_in, negative, denominator_among, denominator_of, lowest_terms, parts_of_one, most_sixtieths, divisors}
+use Rattle.label.specs.Limits.{number_from, number, signed, exponent_in, negative, denominator_among, denominator_of, lowest_terms, parts_of_one, most_sixtieths, divisors}
 use Rattle.label.specs.Writing.{figures_before, figures}
 use Rattle.label.proofs.Basics.{both, T_and}
 

@@ -22,7 +22,7 @@ use Rattle.label.specs.Symbols.{Symbol, unknown, symbol}
 use Rattle.label.specs.Lexical.{Written, unwritten, whole, Factor, Part}
 use Rattle.label.specs.Limits.{exclusive_or, Ratio, ratio, sixtieths, exponent_in, exponent_of, k_of, denominator_among, denominator_of, lowest_terms, most_bytes, parts_of_one}
 use Rattle.label.specs.Split.{Placed, Valued}
-use Rattle.label.specs.Reading.{term, Reading, refusal, reading_of, reading}
+use Rattle.label.specs.Reading.{term, Reading, reading_of, reading}
 use Rattle.label.specs.Letters.{prefix_letters}
 use Rattle.label.specs.Writing.{power_text, exponent_text, reads_as, in_quotes, symbol_text, Writable, both_texts, unit_text, factor_text, more_text, label_text, written_by, written, own_letters, writable, ReadsAs, NameIn, TakesName, Form, ExponentForm, FactorForm, HasForm, Formless, Rewriting, refuse_rewriting, unless, sized, written_reading, rewriting, Refuses}
 use Rattle.label.specs.Rows.{Style}

@@ -18,7 +18,7 @@ use Rattle.label.specs.Symbols.{Symbol, known, unknown, symbol}
 use Rattle.label.specs.Units.{unit_at}
 use Rattle.label.specs.Ogip.{Unspaced, unspaced}
 use Rattle.label.specs.Lexical.{Factor, no_factor, ten_to, Part, part, item, more, quotient}
-use Rattle.label.specs.Limits.{signed, negative, number, exponent_of, k_of, most_bytes, most_terms, largest_k}
+use Rattle.label.specs.Limits.{negative, exponent_of, k_of, most_bytes, most_terms, largest_k}
 use Rattle.label.specs.Split.{Placed, valued_unit, valued_units, valued_with, valued}
 use Rattle.label.specs.Reading.{term, Reading, reading_of, accept, unless, check_counts, check_values, check_grammar, checked, answered, reading}
 use Rattle.label.specs.Agreement.{Raised, raised_term}

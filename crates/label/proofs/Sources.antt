@@ -1,5 +1,5 @@
 -- What an accepted label's reading keeps of the limits: exponents from one sixtieth to 99, k, and the number of terms.
-use Prim.Native.Nat.{ℕ, zero, suc, ◌+◌, ◌*◌, ◌-◌, ◌/◌, ◌%◌, ◌≤◌, ◌<◌}
+use Prim.Native.Nat.{ℕ, zero, suc, ◌*◌, ◌-◌, ◌/◌, ◌%◌, ◌≤◌, ◌<◌}
 use native.Mathlib.Omega.{arith}
 use native.Mathlib.Decide.{dec_lt}
 use native.Mathlib.Nat.{div-add-mod'}
@@ -16,14 +16,14 @@ use Rattle.label.specs.declared.Exponent.{Exponent}
 use Rattle.label.specs.declared.Tens.{Tens}
 use Rattle.label.specs.Choice.{pick}
 use Rattle.label.specs.Notations.{notation}
-use Rattle.label.specs.Lexical.{Written, whole, Factor, no_factor, ten_to, zeros, Part, turned_all, Kind, item, more, product, quotient}
+use Rattle.label.specs.Lexical.{Written, Factor, no_factor, ten_to, zeros, Part, turned_all, Kind, item, more, product, quotient}
 use Rattle.label.specs.Symbols.{symbol}
 use Rattle.label.specs.Limits.{number, signed, exclusive_or, ratio, sixtieths, exponent_of, short, tens, k_of, most_bytes, most_terms, parts_of_one, largest_k}
 use Rattle.label.specs.Split.{Placed, Valued, valued_units, valued_with, valued, Condition}
 use Rattle.label.specs.Reading.{Term, term, Reading, refusal, reading_of, reading}
 use Rattle.label.specs.Parse.{inside}
 use Rattle.label.specs.Agreement.{Raised, raised_term}
-use Rattle.label.specs.Writing.{Writable, own_letters, writable, written, written_reading, SameContent, unless, sized, rewriting}
+use Rattle.label.specs.Writing.{Writable, own_letters, writable, written_reading, SameContent, unless, sized, rewriting}
 use Rattle.label.proofs.Basics.{none_some, false_true, and_right}
 use Rattle.label.proofs.General.{G, LabelBy}
 use Rattle.label.proofs.Parts.{PartBy, AllParts, label_parts}

@@ -3,7 +3,7 @@ use Rattle.std.specs.Prelude.{ℕ, zero, suc, ◌+◌, ◌/◌, ◌%◌, ◌<◌
 use Rattle.std.proofs.Math.Option.{Option, none, some}
 use Rattle.label.specs.declared.Exponent.{Exponent}
 use Rattle.label.specs.declared.Tens.{Tens}
-use Rattle.label.specs.Bytes.{bytes, quote, open_bracket, close_bracket, plus, minus, slash, digit_zero, same}
+use Rattle.label.specs.Bytes.{quote, open_bracket, close_bracket, plus, minus, slash, digit_zero, same}
 use Rattle.label.specs.Choice.{pick}
 use Rattle.label.specs.Notations.{member, fractionless, factorless, notation}
 use Rattle.label.specs.Rows.{Style, style_of}

@@ -12,7 +12,7 @@ use Rattle.slices.specs.Slices.{index_of, slice}
 use Rattle.label.specs.Bytes.{tab}
 use Rattle.label.specs.Ranges.{between}
 use Rattle.label.specs.Writing.{rewriting}
-use Rattle.label.specs.Lines.{most_line, parts, last_field, fields, notation_named, answer_with, malformed, well_formed, answer_fields, answer, answers}
+use Rattle.label.specs.Lines.{most_line, parts, last_field, fields, notation_named, answer_with, malformed, well_formed, answer_fields, answer}
 use Rattle.lines.specs.Fields.{FieldEnd}
 use Rattle.lines.specs.Writing.{Puts, number_text, most_answer, AnswersLine}
 use Rattle.lines.proofs.Putting.{malformed_is, number_size}

@@ -7,7 +7,7 @@ use mathlib.Core.Bool.{Bool, true, false}
 use mathlib.Core.List.{List, [], ◌∷◌, ◌++◌, append_assoc, append-nil}
 use lib.Dec.{ltb}
 use lib.ListN.{length, take, drop, set, length-append, length-drop, take-append-drop, drop_of_length-le}
-use lib.Seq.{take_all, take-length, length-take-le, take-append_seam, drop-append_seam, take-append-le, take-take, drop_at, drop-drop}
+use lib.Seq.{take_all, length-take-le, take-append_seam, drop-append_seam, take-append-le, take-take, drop_at, drop-drop}
 use borrow.Rule.Slice.PartMut.{mid_of, put_mid}
 use borrow.Author.Tests.{lt-ltb, le-ltb}
 use Rattle.label.specs.Bytes.{tab, digit_zero}

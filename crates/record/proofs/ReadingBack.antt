@@ -2,11 +2,9 @@
 use Prim.Native.Nat.{ℕ, zero, suc, ◌*◌, ◌-◌, ◌<◌, ◌^◌, ◌/◌}
 use native.Mathlib.Omega.{arith}
 use native.Mathlib.Nat.{pow-suc, mod-add-div, div-lt_iff_lt-mul, zero-lt-suc}
-use mathlib.Core.Path.{◌≡◌, ap, ◌∙◌}
-use lib.Dec.{ltb}
-use lib.IntN.{ℤ, pos, negsuc}
+use mathlib.Core.Path.{◌≡◌}
+use lib.IntN.{pos, negsuc}
 use borrow.Author.Tests.{lt-ltb, le-ltb}
-use Rattle.label.specs.Choice.{pick}
 use Rattle.record.specs.Record.{complement, digits, eight, value, signed, ReadBack}
 
 pub value_digits : (w n : ℕ) → n < 256 ^ w → value (digits w n) ≡ n

@@ -1,5 +1,5 @@
 -- What the arrays of a reading are whose record is written.
-use Rattle.std.specs.Prelude.{ℕ, ◌+◌, ◌≤◌, ◌<◌, ◌≡◌, List, ℤ, length}
+use Rattle.std.specs.Prelude.{ℕ, ◌≤◌, ◌<◌, ◌≡◌, List, ℤ, length}
 use Rattle.label.specs.Limits.{most_bytes, most_terms}
 use Rattle.descent.specs.Terms.{Lent, count, start_at, end_at}
 use Rattle.content.specs.Views.{letters_at, letters_end}

@@ -1,22 +1,19 @@
 -- What is answered for a written text and a lent buffer, and for a label that is read.
-use Prim.Native.Nat.{ℕ, suc, ◌+◌, ◌-◌, ◌≤◌, ◌<◌}
+use Prim.Native.Nat.{ℕ, ◌-◌, ◌≤◌, ◌<◌}
 use native.Mathlib.Omega.{arith}
-use mathlib.Core.Path.{◌≡◌, refl, sym, ap, ◌∙◌}
+use mathlib.Core.Path.{◌≡◌, refl, sym, ◌∙◌}
 use mathlib.Core.Logic.{◌≢◌}
-use mathlib.Core.Bool.{Bool, true, false}
-use mathlib.Core.List.{List, [], ◌++◌, map}
-use mathlib.Core.Option.{Option, none, some}
-use lib.Dec.{leb, eqb}
+use mathlib.Core.Bool.{true, false}
+use mathlib.Core.List.{List, ◌++◌, map}
+use mathlib.Core.Option.{Option, some}
+use lib.Dec.{leb}
 use lib.IntN.{ℤ}
-use lib.ListN.{length, take, drop, get_or}
-use lib.Seq.{length-take-le, take_all}
+use lib.ListN.{length, take, drop}
+use lib.Seq.{length-take-le}
 use borrow.Author.Tests.{le-leb, lt-leb, eq-eqb, ne_eqb}
-use Rattle.label.specs.declared.Tens.{Tens}
 use Rattle.label.specs.Notations.{notation}
 use Rattle.label.specs.Ranges.{between}
-use Rattle.label.specs.Reading.{Reading, reading}
-use Rattle.label.specs.Writing.{Writable, Rewriting, refuse_rewriting, unless, sized, rewriting, label_text, written_by, written, written_reading, writable}
-use Rattle.label.specs.Rows.{style_of}
+use Rattle.label.specs.Writing.{Rewriting, refuse_rewriting, unless, sized, rewriting, label_text, written_by, written, writable}
 use Rattle.label.proofs.Between.{length_between}
 use Rattle.descent.specs.Terms.{Lent, count}
 use Rattle.content.specs.Views.{terms_in}
@@ -26,9 +23,9 @@ use Rattle.reading.specs.Views.{reading_in}
 use Rattle.reading.specs.Answers.{ReadingAnswer}
 use Rattle.rewriting.specs.declared.rewrite.Rewritten.{Rewritten}
 use Rattle.notations.specs.declared.rows.Style.{Style}
-use Rattle.rewriting.specs.Texts.{text_room, HoldsText}
+use Rattle.rewriting.specs.Texts.{HoldsText}
 use Rattle.notations.specs.Styles.{style_in, StyleOf}
-use Rattle.rewriting.specs.Units.{TermOf, AllTerms}
+use Rattle.rewriting.specs.Units.{AllTerms}
 use Rattle.label.specs.Writing.{fitted, rewriting_into, buffer_with}
 use Rattle.rewriting.specs.Buffers.{AnswerIs}
 

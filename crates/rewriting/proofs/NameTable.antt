@@ -28,7 +28,7 @@ use Rattle.symbols.specs.Columns.{name_count, unit_count, name_keys, name_codes,
 use Rattle.symbols.specs.Views.{place}
 use Rattle.symbols.proofs.Computing.{columns_compute}
 use Rattle.symbols.proofs.RowLaws.{every, every_at}
-use Rattle.symbols.proofs.KeyLaws.{keyable, long_other, other_length, SpellingKey, agrees_spelled}
+use Rattle.symbols.proofs.KeyLaws.{long_other, other_length, SpellingKey, agrees_spelled}
 use Rattle.symbols.proofs.UnitLaws.{units_count}
 use Rattle.symbols.proofs.NameLaws as laws
 use Rattle.symbols.proofs.PrefixLaws as prefix_laws

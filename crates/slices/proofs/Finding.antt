@@ -1,5 +1,5 @@
 -- One step of a search through a part of a slice.
-use Rattle.std.proofs.Common.{◌≡◌, ℕ, suc, ◌+◌, ◌-◌, ◌<◌, ◌≤◌, Bool, true, false, List, [], ◌∷◌, length, get_or, eqb, take, drop, sym, ap, ◌∙◌, arith, add-one, drop-cons}
+use Rattle.std.proofs.Common.{◌≡◌, ℕ, suc, ◌+◌, ◌-◌, ◌<◌, ◌≤◌, true, false, List, ◌∷◌, length, get_or, eqb, take, drop, ap, ◌∙◌, arith, drop-cons}
 use Rattle.slices.specs.Slices.{index_of, index_after, slice}
 
 -- a part that is not empty has a first number

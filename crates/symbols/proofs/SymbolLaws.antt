@@ -8,7 +8,6 @@ use mathlib.Core.Option.{Option, none, some}
 use lib.Dec.{leb}
 use lib.ListN.{length, drop, length-drop, drop_of_length-le}
 use borrow.Author.Tests.{le-leb, leb-true, leb-false}
-use Rattle.label.proofs.Basics.{none_some}
 use Rattle.label.specs.Symbols.{Symbol, known, unknown, unit_named, Cut, KnownCut, cuts, known_by, known_among, known_cuts}
 use Rattle.label.specs.Symbols.{longer, longest, by_longest, by_cut, by_whole, by_quote, unquoted, symbol}
 use Rattle.label.specs.Bytes.{run}

@@ -4,7 +4,7 @@ use native.Mathlib.Omega.{arith}
 use mathlib.Core.Path.{◌≡◌, sym, ap, ◌∙◌}
 use mathlib.Core.List.{List, [], ◌++◌, append_assoc, append-nil}
 use lib.ListN.{length, take, drop, length-append, length-take, length-drop, drop_of_length-le}
-use lib.Seq.{take_all, take-length, take-append_seam, drop-append_seam, take-append-add, take-append-le, take-nil, drop-drop, drop-nil}
+use lib.Seq.{take_all, take-append_seam, drop-append_seam, take-append-add, take-append-le, take-nil, drop-drop, drop-nil}
 use borrow.Rule.Slice.PartMut.{mid_of, put_mid}
 use Rattle.record.specs.Record.{written_over}
 

@@ -4,7 +4,6 @@ use native.Mathlib.Omega.{arith}
 use mathlib.Core.Path.{◌≡◌, refl, sym, ap, ◌∙◌}
 use mathlib.Core.Bool.{Bool, true}
 use mathlib.Core.List.{List, [], ◌∷◌, ◌++◌}
-use mathlib.Core.Option.{some}
 use lib.ListN.{length, get_or, drop, get_or-append, get_or-eq_default}
 use Rattle.label.specs.Bytes.{bytes, letter, run, same}
 use Rattle.label.specs.Ranges.{between}

@@ -16,7 +16,7 @@ use Rattle.label.specs.Reading.{exponent}
 use Rattle.label.specs.Conversion.{same_whole}
 use Rattle.label.specs.Words.{Word, number_words, factor_words, over_words, fraction_words, exponent_words}
 use Rattle.label.proofs.Basics.{false_true}
-use Rattle.label.proofs.Figures.{Lowered, lowered, size_signed}
+use Rattle.label.proofs.Figures.{lowered, size_signed}
 use Rattle.words.specs.Speech.{integer_words}
 
 -- K

@@ -1,13 +1,12 @@
 -- What is answered for words that were written, and for a label that is read.
-use Prim.Native.Nat.{ℕ, suc, ◌+◌, ◌-◌, ◌≤◌, ◌<◌}
+use Prim.Native.Nat.{ℕ, suc, ◌-◌, ◌≤◌, ◌<◌}
 use native.Mathlib.Omega.{arith}
 use mathlib.Core.Path.{◌≡◌, refl, sym, ap, ◌∙◌}
 use mathlib.Core.Logic.{◌≢◌}
 use mathlib.Core.List.{List, [], ◌∷◌, ◌++◌}
 use lib.Dec.{eqb}
 use lib.IntN.{ℤ}
-use lib.ListN.{length, take, drop}
-use lib.Seq.{take_all}
+use lib.ListN.{length, drop}
 use borrow.Author.Tests.{le-leb, lt-leb, eq-eqb, ne_eqb}
 use Rattle.label.specs.Ranges.{between}
 use Rattle.label.specs.Reading.{reading}
@@ -20,10 +19,9 @@ use Rattle.content.specs.Views.{terms_in}
 use Rattle.reading.specs.declared.read.Answer.{Answer}
 use Rattle.reading.specs.Views.{reading_in}
 use Rattle.reading.specs.Answers.{ReadingAnswer}
-use Rattle.rewriting.specs.declared.rewrite.Rewritten.{Rewritten}
 use Rattle.rewriting.specs.Buffers.{AnswerIs}
 use Rattle.rewriting.proofs.Delivering.{fitted_refusal}
-use Rattle.words.specs.Speech.{HoldsBytes, Says, SaysWords, words_answer}
+use Rattle.words.specs.Speech.{HoldsBytes, SaysWords, words_answer}
 
 -- WORDS WITHOUT THE FIRST SPACE
 

@@ -3,14 +3,14 @@ use Prim.Native.Nat.{ℕ, ◌+◌, ◌-◌, ◌≤◌, ◌<◌}
 use native.Mathlib.Omega.{arith}
 use native.Mathlib.Numerals.{add-one}
 use mathlib.Core.Path.{◌≡◌, refl, sym, ap, ◌∙◌}
-use mathlib.Core.List.{List, [], ◌∷◌, ◌++◌, map, map-append, append_assoc, append-nil}
-use lib.ListN.{length, take, set, get_or, length-append, length-set}
+use mathlib.Core.List.{List, [], ◌∷◌, ◌++◌, map-append, append_assoc, append-nil}
+use lib.ListN.{length, set, get_or, length-append, length-set}
 use lib.Seq.{take-suc-set, take_all}
 use Rattle.label.specs.Bytes.{space}
 use Rattle.label.specs.Ranges.{between}
 use Rattle.label.specs.Words.{Word, spaced_words, letter_words}
 use Rattle.label.proofs.Between.{between_none, between_more}
-use Rattle.words.specs.Speech.{HoldsBytes, Says, SaysWords}
+use Rattle.words.specs.Speech.{Says, SaysWords}
 
 -- PIECES
 

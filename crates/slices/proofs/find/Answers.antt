@@ -1,5 +1,5 @@
 -- `slices::find` meets its contract: each way is one of `Finding`.
-use Rattle.std.proofs.Common.{◌≡◌, sym, ◌∙◌, eqb, arith, eq-eqb, ne_eqb}
+use Rattle.std.proofs.Common.{◌≡◌, sym, ◌∙◌, arith, eq-eqb, ne_eqb}
 use Rattle.slices.proofs.Finding.{found_here, found_later, found_nowhere}
 use Rattle.slices.proofs.find.Goals as goal
 

@@ -7,7 +7,7 @@ abbrev pub invariant-loop-i : goal.invariant-loop-i
 invariant-loop-i l =
     record {
       within : l.i ≤ l.end;
-      is : l.start + index_of l.byte (slice l.start l.end l.s) ≡ l.i + index_of l.byte (slice l.i l.end l.s)
+      is : l.start + index_of l.byte (slice l.start l.end l.s) ≡ l.i + index_of l.byte (slice l.i l.end l.s);
     }
 
 abbrev pub decreases-loop-i : goal.decreases-loop-i

@@ -1,5 +1,4 @@
 -- `checks::bytes::all_admitted` meets its contract: each turn of the scan is one of `Notations`.
-use Prim.Native.Nat.{◌-◌}
 use native.Mathlib.Omega.{arith}
 use mathlib.Core.Path.{refl}
 use Rattle.checks.proofs.Admitted.{admitted₁, admitted₂, admitted₃}

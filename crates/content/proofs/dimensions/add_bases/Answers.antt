@@ -1,5 +1,5 @@
 -- `content::dimensions::add_bases` meets its contract. The invariant, `Gathered`, says what the slots passed have added.
-use Prim.Native.Nat.{◌<◌, ◌-◌}
+use Prim.Native.Nat.{◌<◌}
 use native.Mathlib.Omega.{arith}
 use mathlib.Core.Path.{sym}
 use lib.ListN.{length}
@@ -50,7 +50,7 @@ loop-slot-preserved c =
       omega arith,
       λ s.
           elim c.if-power-ne0.branch [
-            then-power-ne0 w ↦
+            | then-power-ne0 w ↦
                 let base_below : w.slot_base-base.result < 32 = rw (w.slot_base-base.ensures []) (slot_base_in c.loop-slot.slot h _) in
                 rw w.sums-is
                 (one_gathered

@@ -1,5 +1,4 @@
 -- `content::dimensions::dimensions` meets its contract. The invariant: the sums are totals over the terms passed, and small.
-use Prim.Native.Nat.{◌-◌}
 use native.Mathlib.Omega.{arith}
 use mathlib.Core.Path.{◌≡◌, sym, ap, ◌∙◌}
 use mathlib.Core.List.{[]}
@@ -16,11 +15,10 @@ unfolding terms_in
 loop-i-init c = (omega arith, (rw c.requires.1 (zeros_within 32 _), λ s p. rw c.requires.1 (no_totals base_in _)))
 
 pub add_bases-requires : goal.add_bases-requires
-add_bases-requires c =
-    (
-      c.unit_bases-bases.ensures,
-      (c.unit_powers-powers.ensures, summable c.loop-i.i (c.loop-i.invariant.1.1 [] []).room (omega arith) c.loop-i.invariant.1.0),
-    )
+add_bases-requires c = (
+  c.unit_bases-bases.ensures,
+  (c.unit_powers-powers.ensures, summable c.loop-i.i (c.loop-i.invariant.1.1 [] []).room (omega arith) c.loop-i.invariant.1.0),
+)
 
 pub loop-i-preserved : goal.loop-i-preserved
 loop-i-preserved c =

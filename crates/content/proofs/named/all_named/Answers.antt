@@ -1,5 +1,4 @@
 -- `content::named::all_named` meets its contract: each turn of the loop is one of `Naming`.
-use Prim.Native.Nat.{◌-◌}
 use native.Mathlib.Omega.{arith}
 use borrow.Author.Rules.{rules}
 use Rattle.content.proofs.Naming.{naming₀, naming_in, naming_few, naming_short, naming_more, named_all}

@@ -1,5 +1,5 @@
 -- `content::scale::add_primes` meets its contract. The invariant, `Gathered`, says what the primes passed have added.
-use Prim.Native.Nat.{◌<◌, ◌-◌}
+use Prim.Native.Nat.{◌<◌}
 use native.Mathlib.Omega.{arith}
 use mathlib.Core.Path.{refl}
 use lib.ListN.{length}
@@ -35,7 +35,7 @@ loop-prime-preserved c =
       omega arith,
       λ s.
           elim c.if-power-ne0.branch [
-            then-power-ne0 w ↦
+            | then-power-ne0 w ↦
                 rw w.sums-is
                 (one_gathered
                 (c.loop-prime.invariant.1 s) c.requires.1.1.small h _ _ refl (c.prime_power-power.ensures s)

@@ -1,5 +1,4 @@
 -- `content::scale::scale` meets its contract. The invariant: the sums are the factor's tens and totals over the terms passed, and small.
-use Prim.Native.Nat.{◌-◌}
 use native.Mathlib.Omega.{arith}
 use mathlib.Core.Path.{◌≡◌, refl, sym, ap, ◌∙◌}
 use mathlib.Core.List.{[]}
@@ -20,18 +19,16 @@ bounds-sums-2 c = rw c.requires.1 (omega arith)
 
 pub loop-i-init : goal.loop-i-init
 unfolding terms_in
-loop-i-init c =
-    (
-      omega arith,
-      (rw c.requires.1 (tens_within c.in_sixtieths-tens.result c.in_sixtieths-tens.ensures.1), λ s p. rw c.requires.1 (no_totals (λ b. prime_in (prime_at b)) _)),
-    )
+loop-i-init c = (
+  omega arith,
+  (rw c.requires.1 (tens_within c.in_sixtieths-tens.result c.in_sixtieths-tens.ensures.1), λ s p. rw c.requires.1 (no_totals (λ b. prime_in (prime_at b)) _)),
+)
 
 pub add_primes-requires : goal.add_primes-requires
-add_primes-requires c =
-    (
-      c.prefix_powers-prefixes.ensures,
-      (c.unit_primes-primes.ensures, summable c.loop-i.i (c.loop-i.invariant.1.1 [] []).room (omega arith) c.loop-i.invariant.1.0),
-    )
+add_primes-requires c = (
+  c.prefix_powers-prefixes.ensures,
+  (c.unit_primes-primes.ensures, summable c.loop-i.i (c.loop-i.invariant.1.1 [] []).room (omega arith) c.loop-i.invariant.1.0),
+)
 
 pub loop-i-preserved : goal.loop-i-preserved
 loop-i-preserved c =

@@ -1,5 +1,4 @@
 -- `content::verdicts::verdicts_on` meets its contract. The invariant: the flags are the verdicts on the terms passed.
-use Prim.Native.Nat.{◌-◌}
 use native.Mathlib.Omega.{arith}
 use mathlib.Core.Path.{◌≡◌, refl}
 use Rattle.label.specs.Reading.{every}
@@ -12,14 +11,13 @@ unfolding every terms_in
 loop-i-init c = (omega arith, λ s t. record { known_is = refl; lawful_is = refl; recommended_is = refl })
 
 pub loop-i-preserved : goal.loop-i-preserved
-loop-i-preserved c =
-    (
-      omega arith,
-      λ s t.
-          verdicts_more s t _ c.loop-i.i c.symbol_at-x.result (c.symbol_at-x.ensures s) (c.loop-i.invariant.1 s t) c.both-all_known.ensures
-          c.both-all_lawful.ensures (c.is_lawful.ensures s)
-          c.both-all_recommended.ensures (c.is_recommended.ensures s),
-    )
+loop-i-preserved c = (
+  omega arith,
+  λ s t.
+      verdicts_more s t _ c.loop-i.i c.symbol_at-x.result (c.symbol_at-x.ensures s) (c.loop-i.invariant.1 s t) c.both-all_known.ensures
+      c.both-all_lawful.ensures (c.is_lawful.ensures s)
+      c.both-all_recommended.ensures (c.is_recommended.ensures s),
+)
 
 pub returns : goal.returns
 returns c =

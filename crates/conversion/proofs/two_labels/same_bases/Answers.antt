@@ -1,5 +1,4 @@
 -- `conversion::two_labels::same_bases` meets its contract: each turn of the loop is one of `Summing`.
-use Prim.Native.Nat.{◌-◌}
 use native.Mathlib.Omega.{arith}
 use Rattle.conversion.proofs.Summing.{comparing₀, comparing_more, comparing_differs, comparing_done}
 use Rattle.conversion.proofs.two_labels.same_bases.Goals as goal

@@ -1,4 +1,3 @@
-
 use native.Mathlib.Omega.{arith}
 use Rattle.descent.proofs.StepLaws.{unit_unspelled, unit_unpowered, unit_read}
 use Rattle.descent.proofs.descent.read_unit.Goals as goal

@@ -1,4 +1,3 @@
-
 use mathlib.Core.Path.{sym, ◌∙◌}
 use Rattle.descent.proofs.joint.is_separator.Goals as goal
 

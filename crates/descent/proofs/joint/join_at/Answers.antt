@@ -1,4 +1,3 @@
-
 use native.Mathlib.Omega.{arith}
 use Rattle.descent.proofs.JointSteps.{end_joins_nothing, separator_joins, slash_joins, spaces_alone_join}
 use Rattle.descent.proofs.joint.join_at.Goals as goal

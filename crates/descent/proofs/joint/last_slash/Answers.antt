@@ -1,4 +1,3 @@
-
 use native.Mathlib.Omega.{arith}
 use Rattle.descent.proofs.JointSteps.{no_slash_allowed, slash_allowed}
 use Rattle.descent.proofs.joint.last_slash.Goals as goal

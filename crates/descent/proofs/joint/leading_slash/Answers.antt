@@ -1,4 +1,3 @@
-
 use native.Mathlib.Omega.{arith}
 use Rattle.label.specs.Bytes.{slash}
 use Rattle.tokens.proofs.Readers.{tested_room}

@@ -1,4 +1,3 @@
-
 use native.Mathlib.Omega.{arith}
 use Rattle.descent.proofs.JointSteps.{pads_spaces, pads_nothing}
 use Rattle.descent.proofs.joint.padded.Goals as goal

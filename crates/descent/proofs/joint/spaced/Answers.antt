@@ -1,4 +1,3 @@
-
 use native.Mathlib.Omega.{arith}
 use Rattle.label.specs.Bytes.{space}
 use Rattle.tokens.proofs.Readers.{tested_room}

@@ -1,4 +1,3 @@
-
 use native.Mathlib.Omega.{arith}
 use Rattle.descent.proofs.LabelSteps.{text_left, text_ends}
 use Rattle.descent.proofs.whole_label.ended.Goals as goal

@@ -1,4 +1,3 @@
-
 use native.Mathlib.Omega.{arith}
 use Rattle.descent.proofs.LabelSteps.{no_factor_read, factor_read, ready_empty}
 use Rattle.descent.proofs.whole_label.factored.Goals as goal

@@ -1,4 +1,3 @@
-
 use native.Mathlib.Omega.{arith}
 use Rattle.descent.proofs.LabelSteps.{gap_of_spaces, gap_of_one_space, gap_of_nothing}
 use Rattle.descent.proofs.whole_label.gap.Goals as goal

@@ -1,4 +1,3 @@
-
 use native.Mathlib.Omega.{arith}
 use Rattle.descent.proofs.LabelSteps.{space_passed, no_space_passed}
 use Rattle.descent.proofs.whole_label.one_space.Goals as goal

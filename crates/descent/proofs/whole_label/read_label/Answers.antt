@@ -1,4 +1,3 @@
-
 use native.Mathlib.Omega.{arith}
 use Rattle.descent.proofs.LabelSteps.{label_empty, label_from_space, label_from_factor, label_from_slash, label_from_product, ready_empty}
 use Rattle.descent.proofs.whole_label.read_label.Goals as goal

@@ -25,6 +25,9 @@ returns c =
     let e : rewriting c.notation_named-from.result c.args.text.now c.notation_named-to.result ≡ r = rw (c.notation_named-from.ensures, c.notation_named-to.ensures) in
     let written = rw e at c.put_result-a.ensures.puts in
     let numbered = rw (c.put_result-a.ensures.number_value, e) at c.put_number-size.ensures in
-    record { puts = answer_put c.args.id.now c.args.out.now c.copy-number_at.new.target c.put_result-a.new.out c.put_number-size.new.out r (rewriting_bounded _ _ _) c.copy-number_at.ensures.bytes
+    record {
+      puts = answer_put c.args.id.now c.args.out.now c.copy-number_at.new.target c.put_result-a.new.out c.put_number-size.new.out r (rewriting_bounded _ _ _) c.copy-number_at.ensures.bytes
           (omega (arith, c.copy-number_at.auto.target, c.requires))
-          c.copy-number_at.result c.put_number-size.result c.put_result-a.result.length c.copy-number_at.ensures.size written numbered; upper_bound = answer_size r (rewriting_bounded _ _ _) c.copy-number_at.result c.put_number-size.result c.put_result-a.result.length (omega (arith, c.copy-number_at.ensures.size, c.requires)) numbered.size_is written.size_is }
+          c.copy-number_at.result c.put_number-size.result c.put_result-a.result.length c.copy-number_at.ensures.size written numbered;
+      upper_bound = answer_size r (rewriting_bounded _ _ _) c.copy-number_at.result c.put_number-size.result c.put_result-a.result.length (omega (arith, c.copy-number_at.ensures.size, c.requires)) numbered.size_is written.size_is;
+    }

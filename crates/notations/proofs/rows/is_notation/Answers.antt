@@ -1,4 +1,3 @@
-
 use Rattle.notations.proofs.Numbers.{is_notation₁, is_notation₂}
 use Rattle.notations.proofs.rows.is_notation.Goals as goal
 

@@ -1,5 +1,4 @@
 -- `notations::rows::notation_named` meets its contract: each turn of the loop is one of `NameLaws`.
-use Prim.Native.Nat.{◌-◌}
 use Rattle.label.specs.Rows.{named}
 use Rattle.notations.proofs.NameLaws.{search_start, search_all, search_hit, search_miss, too_long}
 use Rattle.notations.proofs.rows.notation_named.Goals as goal

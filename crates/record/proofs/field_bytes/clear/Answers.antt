@@ -1,5 +1,4 @@
 -- `record::field_bytes::clear` meets its contract: each turn of the loop is one of `Writing`.
-use Prim.Native.Nat.{◌-◌}
 use native.Mathlib.Omega.{arith}
 use Rattle.record.proofs.Writing.{clearing₀, clearing_more, clearing_done}
 use Rattle.record.proofs.field_bytes.clear.Goals as goal

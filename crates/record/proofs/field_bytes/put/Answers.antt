@@ -1,5 +1,4 @@
 -- `record::field_bytes::put` meets its contract: each turn of the loop is one of `Writing`.
-use Prim.Native.Nat.{◌-◌}
 use native.Mathlib.Omega.{arith}
 use Rattle.record.proofs.Writing.{putting₀, putting_more, putting_done}
 use Rattle.record.proofs.field_bytes.put.Goals as goal

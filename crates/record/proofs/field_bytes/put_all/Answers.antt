@@ -1,5 +1,4 @@
 -- `record::field_bytes::put_all` meets its contract: each turn of the loop is one of `Writing`.
-use Prim.Native.Nat.{◌-◌}
 use native.Mathlib.Omega.{arith}
 use Rattle.record.proofs.Writing.{all₀, all_more, all_done}
 use Rattle.record.proofs.field_bytes.put_all.Goals as goal

@@ -17,5 +17,8 @@ overflow_cast-result-3 c =
 pub returns : goal.returns
 returns c =
     let exponent_fits : SFits w32 (get_or c.args.exponents.now c.args.i (pos 0)) = record { sfits = c.result-1.given } in
-    record { result_len = refl; by_index = term_is c.args.names.now c.requires.1 (omega arith) (omega arith) (omega arith) (omega arith)
-          c.number_at-prefix.ensures c.number_at-unit.ensures c.number_at-first.ensures c.number_at-last.ensures exponent_fits }
+    record {
+      result_len = refl;
+      by_index = term_is c.args.names.now c.requires.1 (omega arith) (omega arith) (omega arith) (omega arith)
+          c.number_at-prefix.ensures c.number_at-unit.ensures c.number_at-first.ensures c.number_at-last.ensures exponent_fits;
+    }

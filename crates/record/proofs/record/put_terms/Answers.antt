@@ -1,5 +1,4 @@
 -- `record::record::put_terms` meets its contract: each turn of the loop is one of `Joining`.
-use Prim.Native.Nat.{◌-◌}
 use native.Mathlib.Omega.{arith}
 use mathlib.Core.Path.{◌≡◌}
 use Rattle.record.proofs.Joining.{terms₀, terms_step}

@@ -1,5 +1,4 @@
 -- `rewriting::label_text::push_label` meets its contract: no terms, or the factor, and each turn of the loop one term more.
-use Prim.Native.Nat.{◌-◌}
 use native.Mathlib.Omega.{arith}
 use mathlib.Core.Path.{sym}
 use mir.Facts.{to_z-of_z}

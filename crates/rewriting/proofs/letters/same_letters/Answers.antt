@@ -1,5 +1,4 @@
 -- `rewriting::letters::same_letters` meets its contract: counts differ, a letter differs, or all are the same.
-use Prim.Native.Nat.{◌-◌}
 use Rattle.rewriting.proofs.LetterLaws.{compare_start, compare_longer, compare_all, compare_differ, compare_more}
 use Rattle.rewriting.proofs.letters.same_letters.Goals as goal
 

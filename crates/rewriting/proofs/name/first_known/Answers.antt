@@ -1,5 +1,4 @@
 -- `rewriting::name::first_known` meets its contract: each turn of the loop finds a name or leaves it.
-use Prim.Native.Nat.{◌-◌}
 use native.Mathlib.Omega.{arith}
 use mathlib.Core.Path.{sym, ◌∙◌}
 use Rattle.rewriting.proofs.NameTable.{look_start, look_end, look_hit, look_miss, among_this, among_later, among_none}

@@ -1,5 +1,4 @@
 -- `rewriting::name::own_place` meets its contract: each turn of the loop finds a name or leaves it.
-use Prim.Native.Nat.{◌-◌}
 use native.Mathlib.Omega.{arith}
 use mathlib.Core.Path.{sym, ◌∙◌}
 use Rattle.rewriting.proofs.NameTable.{look_start, look_end, look_hit, look_miss, own_this, own_later, own_none}

@@ -1,5 +1,4 @@
 -- `rewriting::text::append` meets its contract: each turn of the loop writes one byte more.
-use Prim.Native.Nat.{◌-◌}
 use native.Mathlib.Omega.{arith}
 use Rattle.rewriting.proofs.TextLaws.{append_start, append_more, append_all}
 use Rattle.rewriting.proofs.text.append.Goals as goal

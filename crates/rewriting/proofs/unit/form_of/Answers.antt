@@ -37,7 +37,7 @@ returns-then-term c =
     let plain : UnquotedText c.push_form-end.new.text c.push_form-end.result (form_text c.args.s.now c.plain_form-form.result) = plain_held c.plain_form-form.ensures c.requires.letters_inside.0 c.requires.letters_inside.1 c.if-form-eq-NO_FORM.false c.push_form-end.ensures in
     rw c.no_form.ensures (record {
       by_index = λ own o. reads_other c.plain_form-form.ensures c.requires.letters_inside.0 _ own o plain _ c.symbol-y.ensures.result_value c.is_same.ensures c.if-is_same.false c.if-term.true;
-      form_in = no_form_in _
+      form_in = no_form_in _;
     })
 
 pub returns-then-style : goal.returns-then-style
@@ -52,5 +52,5 @@ returns c =
     let plain : UnquotedText c.push_form-end.new.text c.push_form-end.result (form_text c.args.s.now c.plain_form-form.result) = plain_held c.plain_form-form.ensures c.requires.letters_inside.0 c.requires.letters_inside.1 c.if-form-eq-NO_FORM.false c.push_form-end.ensures in
     rw c.no_form-2.ensures (record {
       by_index = λ own o. reads_not c.plain_form-form.ensures c.requires.letters_inside.0 _ own o plain _ c.symbol-y.ensures.result_value c.is_same.ensures c.if-is_same.false c.if-term.false c.if-style.false;
-      form_in = no_form_in _
+      form_in = no_form_in _;
     })

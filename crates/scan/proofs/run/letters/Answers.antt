@@ -1,5 +1,4 @@
 -- `scan::run::letters` meets its contract: each turn of the scan is one of `Scanning`.
-use Prim.Native.Nat.{◌-◌}
 use native.Mathlib.Omega.{arith}
 use mathlib.Core.Path.{sym, ◌∙◌}
 use Rattle.label.specs.Bytes.{letter}

@@ -1,8 +1,6 @@
 -- `scan::run::run_within` meets its contract: each turn of the scan is one of `Scanning`.
-use Prim.Native.Nat.{◌-◌}
 use native.Mathlib.Omega.{arith}
 use mathlib.Core.Path.{sym, ◌∙◌}
-use Rattle.label.specs.Bytes.{within}
 use Rattle.scan.proofs.Scanning.{none, one, stopped, ended}
 use Rattle.scan.proofs.run.run_within.Goals as goal
 

@@ -1,5 +1,4 @@
 -- `symbols::keys::compare` meets its contract: each way through it is one of `PairLaws`.
-use Prim.Native.Nat.{◌-◌}
 use native.Mathlib.Omega.{arith}
 use mathlib.Core.Path.{sym, ◌∙◌}
 use Rattle.symbols.proofs.PairLaws.{sizes_differ, same_start, same_pair, first_difference, no_difference}

@@ -1,5 +1,4 @@
 -- `symbols::keys::first_quote` meets its contract: each turn of the loop is one of `Quotes`.
-use Prim.Native.Nat.{◌-◌}
 use native.Mathlib.Omega.{arith}
 use Rattle.symbols.proofs.Quotes.{passed_none, passed_more, stopped, ended}
 use Rattle.symbols.proofs.keys.first_quote.Goals as goal

@@ -1,5 +1,3 @@
-
-use Prim.Native.Nat.{◌-◌}
 use native.Mathlib.Omega.{arith}
 use Rattle.symbols.proofs.KeyLaws.{keyed_none, room, keyed_more, keyed_end}
 use Rattle.symbols.proofs.keys.key.Goals as goal

@@ -1,5 +1,4 @@
 -- `symbols::lookup::unit_named` meets its contract: each turn of the loop is one of `NameLaws`.
-use Prim.Native.Nat.{◌-◌}
 use native.Mathlib.Omega.{arith}
 use Rattle.label.proofs.Between.{length_between}
 use Rattle.symbols.proofs.KeyLaws.{spelled_part}

@@ -1,4 +1,3 @@
-
 use Rattle.symbols.proofs.RowLaws.{outside}
 use Rattle.symbols.proofs.properties.element.Goals as goal
 

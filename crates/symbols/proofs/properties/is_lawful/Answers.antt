@@ -1,4 +1,3 @@
-
 use mathlib.Core.Path.{◌∙◌}
 use borrow.Author.Tests.{not-true, not-false}
 use Rattle.symbols.proofs.PropertyLaws.{lawful_unknown, lawful_bare, lawful_prefixed}

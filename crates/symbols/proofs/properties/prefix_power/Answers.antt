@@ -1,4 +1,3 @@
-
 use Rattle.symbols.specs.Views.{place}
 use Rattle.symbols.proofs.UnitLaws.{held, tens_placed, tens_small}
 use native.Mathlib.Omega.{arith}

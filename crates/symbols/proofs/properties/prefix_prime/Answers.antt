@@ -1,4 +1,3 @@
-
 use native.Mathlib.Omega.{arith}
 use mathlib.Core.Path.{ap, ◌∙◌}
 use Rattle.symbols.proofs.UnitLaws.{held, odd_prime, even_prime, in_tens_small}

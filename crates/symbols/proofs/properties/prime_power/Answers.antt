@@ -1,4 +1,3 @@
-
 use Rattle.symbols.proofs.PropertyLaws.{sum_fits, sum_is}
 use Rattle.symbols.proofs.properties.prime_power.Goals as goal
 

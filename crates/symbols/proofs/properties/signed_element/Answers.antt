@@ -1,4 +1,3 @@
-
 use Rattle.symbols.proofs.RowLaws.{outside}
 use Rattle.symbols.proofs.UnitLaws.{byte_fits}
 use lib.IntN.{pos}

@@ -1,4 +1,3 @@
-
 use mathlib.Core.Path.{◌∙◌}
 use Rattle.symbols.proofs.PropertyLaws.{base_in_row}
 use Rattle.symbols.proofs.properties.slot_base.Goals as goal

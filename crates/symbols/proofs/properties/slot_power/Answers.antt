@@ -1,4 +1,3 @@
-
 use native.Mathlib.Omega.{arith}
 use Rattle.symbols.proofs.UnitLaws.{held, slot_small}
 use Rattle.symbols.specs.Views.{symbol_in}

@@ -1,4 +1,3 @@
-
 use native.Mathlib.Omega.{arith}
 use Rattle.tokens.proofs.FactorSteps.{plain_empty, plain_other, plain_run}
 use Rattle.tokens.proofs.factor.is_plain.Goals as goal

@@ -1,4 +1,3 @@
-
 use mathlib.Core.Path.{◌∙◌}
 use native.Mathlib.Omega.{arith}
 use Rattle.tokens.proofs.FactorSteps.{is_ten₁, is_ten₂}

@@ -1,4 +1,3 @@
-
 use mathlib.Core.Path.{sym, ◌∙◌}
 use Rattle.tokens.proofs.power.starts_integer.Goals as goal
 

@@ -1,9 +1,6 @@
 -- `typing::lent_state::four_bytes_at` meets its contract: each byte is below 256, and the number is theirs.
-use Prim.Native.Nat.{ℕ, ◌+◌}
+use Prim.Native.Nat.{◌+◌}
 use native.Mathlib.Omega.{arith}
-use lib.ListN.{get_or}
-use mir.Syntax.{w8}
-use mir.Val.{Fits}
 use Rattle.typing.proofs.LentSteps.{four_bytes}
 use Rattle.typing.proofs.lent_state.four_bytes_at.Goals as goal
 

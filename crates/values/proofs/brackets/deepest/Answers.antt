@@ -1,5 +1,4 @@
 -- `values::brackets::deepest` meets its contract. The invariant, `Counted`, says what the bytes passed have opened.
-use Prim.Native.Nat.{◌-◌}
 use native.Mathlib.Omega.{arith}
 use Rattle.values.proofs.OpenBrackets.{counted_none, counted_more, counted_end}
 use Rattle.values.proofs.brackets.deepest.Goals as goal

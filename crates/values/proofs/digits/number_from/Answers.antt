@@ -1,5 +1,4 @@
 -- `values::digits::number_from` meets its contract. The invariant, `Passed`, says what the digits passed have brought.
-use Prim.Native.Nat.{◌-◌}
 use native.Mathlib.Omega.{arith}
 use Rattle.values.proofs.Numbers.{passed_none, passed_more, passed_size, passed_room, passed_end}
 use Rattle.values.proofs.digits.number_from.Goals as goal

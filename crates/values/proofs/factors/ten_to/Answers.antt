@@ -1,5 +1,5 @@
 -- `values::factors::ten_to` meets its contract.
-use borrow.Author.Tests.{leb-true, not-true, not-false}
+use borrow.Author.Tests.{leb-true}
 use mathlib.Core.Path.{refl, sym, ◌∙◌}
 use Rattle.label.specs.Limits.{k_of}
 use Rattle.values.proofs.Quotients.{short_in}

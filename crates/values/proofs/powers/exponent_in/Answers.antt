@@ -29,7 +29,10 @@ returns-then-size-gt-LARGEST_EXPONENT c =
 
 pub returns : goal.returns
 returns c =
-    record { exponent_value = some_kept c.args.turned (ratio_of c.args.q) _ _ _ (not-false _ c.if-not-q.false) c.if-q-eq0.false (sym c.remainder.ensures ∙ c.if-remainder-ne0.false) c.divided-size.ensures
+    record {
+      exponent_value = some_kept c.args.turned (ratio_of c.args.q) _ _ _ (not-false _ c.if-not-q.false) c.if-q-eq0.false (sym c.remainder.ensures ∙ c.if-remainder-ne0.false) c.divided-size.ensures
           c.if-size-gt-LARGEST_EXPONENT.false
           c.exclusive_or-negative.ensures
-          c.signed.ensures; refused = λ e. absurd (false_true (sym e)) }
+          c.signed.ensures;
+      refused = λ e. absurd (false_true (sym e));
+    }

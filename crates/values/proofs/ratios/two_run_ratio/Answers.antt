@@ -1,6 +1,5 @@
 -- `values::ratios::two_run_ratio` meets its contract: digits after a point write on from the number before it.
 use Prim.Native.Nat.{ℕ, ◌^◌}
-use borrow.Author.Tests.{not-true, not-false}
 use mathlib.Core.Path.{refl, sym, ap, ◌∙◌}
 use native.Mathlib.Omega.{arith}
 use Rattle.label.specs.Limits.{ratio, number_from}

@@ -1,5 +1,5 @@
 -- `values::ratios::whole_ratio` meets its contract.
-use borrow.Author.Tests.{leb-true, not-true, not-false}
+use borrow.Author.Tests.{leb-true}
 use mathlib.Core.Path.{refl, sym, ◌∙◌}
 use native.Mathlib.Omega.{arith}
 use Rattle.label.specs.Limits.{ratio}

@@ -1,5 +1,4 @@
 -- `words::speech::say` meets its contract: a space, and each turn of the loop writes one byte more.
-use Prim.Native.Nat.{◌-◌}
 use mathlib.Core.Path.{◌∙◌}
 use native.Mathlib.Omega.{arith}
 use Rattle.words.proofs.SpeechLaws.{word_none, word_more, word_all, one_word}

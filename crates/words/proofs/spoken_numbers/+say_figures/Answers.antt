@@ -1,5 +1,4 @@
 -- `words::spoken_numbers::say_figures` meets its contract: no digit, one, or the last digit after the others.
-use Rattle.std.proofs.Common.{◌∙◌}
 use Rattle.rewriting.proofs.NumberLaws.{figures_none, figures_one, figures_more}
 use Rattle.words.proofs.SpeechLaws.{says_nothing, says_both, says_as}
 use Rattle.words.proofs.spoken_numbers.+say_figures.Goals as goal

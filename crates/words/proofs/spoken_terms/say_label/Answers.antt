@@ -1,5 +1,4 @@
 -- `words::spoken_terms::say_label` meets its contract: the factor, and each turn of the loop one term more.
-use Prim.Native.Nat.{◌-◌}
 use native.Mathlib.Omega.{arith}
 use mathlib.Core.Path.{sym, ap, ◌∙◌}
 use lib.ListN.{length}

@@ -1,5 +1,4 @@
 -- `words::spoken_terms::say_letters` meets its contract: each turn of the loop says one letter more.
-use Prim.Native.Nat.{◌-◌}
 use native.Mathlib.Omega.{arith}
 use Rattle.words.proofs.SpeechLaws.{said_letters_none, said_letters_more, said_letters_all}
 use Rattle.words.proofs.spoken_terms.say_letters.Goals as goal

@@ -67,7 +67,7 @@ term_written y m s t x i f w v g p =
 
 -- ONE TERM MORE
 
--- what label-text has after the factor
+-- what label_text has after the factor
 unfoldable pub terms_text : Style → ℕ → List Writable → Option (List ℕ)
 terms_text y m [] = some []
 terms_text y m (w ∷ ws) = both_texts (unit_text y m w) (more_text y m ws)

@@ -105,14 +105,25 @@ uninstall:
 
 # BUILDING
 
-# The proofs are checked before the proved part of the library is made. A line for each proved crate is shown; the whole log stays in build/.
-build/libface.a: crates.txt $(shell find crates -name '*.rt' -o -name '*.antt')
+# What is proved; what rt keeps in crates/*/out is not part of it.
+PROVED = crates.txt $(shell find crates -name out -prune -o \( -name '*.rt' -o -name '*.antt' \) -print)
+
+# $(call prove,CRATE,COMMAND,LOG): rt's command in the crate's folder, with nothing to read. A line for each crate that is proved anew is shown; the whole
+# log stays in build/. Where the command fails the log's end is shown, without the lines that only count.
+define prove
+@mkdir -p build
+@{ (cd crates/$(1) && $(2)) </dev/null 2>&1; echo "exit status $$?"; } | tee build/$(3) | $(outcomes)
+@tail -n 1 build/$(3) | grep -qx 'exit status 0' || { grep -Ev $(counts) build/$(3) | tail -n 20; false; }
+endef
+outcomes = sed -un '/^crate /{s/^crate \([^:]*\).*/\1/;h;}; /^logic=/{G;s/^logic=\([a-z-]*\).*\n\(.*\)/rt: \2 \1/p;}'
+counts = '^(logic|library|statements|crate|axioms) |: proved$$'
+
+# The proofs are checked before the proved part of the library is made.
+build/libface.a: $(PROVED)
 	$(call needs,rt)
-	@mkdir -p build
 	@echo 'checking the proofs of the reader and building its library: some minutes'
-	@{ rt staticlib face 2>&1; echo "exit status $$?"; } | tee build/library.log | grep --line-buffered '^rt: ' || true
-	@tail -n 1 build/library.log | grep -qx 'exit status 0' || { tail -n 20 build/library.log; false; }
-	cp target/staticlib/libface.a $@
+	$(call prove,face,rt lib,library.log)
+	cp crates/face/out/libface.a $@
 
 # The library is the proved part and its version.
 $(LIBRARY): build/libface.a build/version.o
@@ -138,14 +149,12 @@ build/labels.roff: examples/labels.c
 	@mkdir -p build
 	sed 's/\\/\\e/g; s/-/\\-/g; s/'\''/\\(aq/g; s/^\./\\\&./' $< >$@
 
-# The line program is proved and built by rt check; after the library, since two checks at once would write the same files.
-build/label-lines: crates.txt $(shell find crates -name '*.rt' -o -name '*.antt') | build/libface.a
+# The line program is proved, built and run once on nothing by rt run; after the library, since two checks at once would write the same files.
+build/label-lines: $(PROVED) | build/libface.a
 	$(call needs,rt)
-	@mkdir -p build
 	@echo 'checking the proofs of the line program and building it: some minutes'
-	@{ rt check label_lines 2>&1; echo "exit status $$?"; } | tee build/lines.log | grep --line-buffered '^rt: ' || true
-	@tail -n 1 build/lines.log | grep -qx 'exit status 0' || { tail -n 20 build/lines.log; false; }
-	cp target/bin/label_lines $@
+	$(call prove,label_lines,rt run,lines.log)
+	cp crates/label_lines/out/label_lines $@
 
 build/%.o: c/%.c $(HEADERS)
 	$(call needs,$(CC))

@@ -86,7 +86,8 @@ tried=$((tried + 1))
 repeated() {
     yes "$(printf '1\tcds\tm\tfits')" | head -n "$1"
 }
-[ "$(repeated 1000000 | "$program" | head -n 1)" = "$(printf '1\t0\tm')" ] || fail 'a closed output: another first line'
+[ "$(repeated 1000000 | "$program" 2>"$directory/err" | head -n 1)" = "$(printf '1\t0\tm')" ] || fail 'a closed output: another first line'
+[ "$(cat "$directory/err")" = 'label-lines: input or output failed' ] || fail 'a closed output: no word'
 repeated 1000000 | timeout 20 "$program" 2>"$directory/err" >/dev/full || true
 [ "$(cat "$directory/err")" = 'label-lines: input or output failed' ] || fail 'a full output: no word'
 timeout 20 "$program" </ 2>"$directory/err" >"$directory/out" || true

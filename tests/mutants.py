@@ -39,6 +39,8 @@ MADE = {
     + ["build/tests/" + name for name in ("limits", "header", "typing", "typing-plain", "rewrite", "words", "convert")],
     "label_lines": ["build/label-lines"],
 }
+# where what was said of its proofs is then
+LOGS = {"face": "build/library.log", "label_lines": "build/lines.log"}
 
 
 class Mutant:
@@ -62,7 +64,7 @@ def crates():
             line = line.split("#")[0].strip()
             if line:
                 name, needs = line.split(":")
-                found[name.strip()] = needs.split()
+                found[name.split()[0]] = needs.split()
     return found
 
 
@@ -123,31 +125,36 @@ def fault(mutant, root):
 
 
 class Copy:
-    """a copy of the repository with its proofs, and what its target/ held before a mutant"""
+    """a copy of the repository with its proofs, and what rt kept in each crate's out/ before a mutant"""
 
     def __init__(self, place):
         self.root = os.path.join(place, "repository")
-        self.saved, self.built = os.path.join(place, "target"), os.path.join(place, "build")
+        self.saved, self.built = os.path.join(place, "out"), os.path.join(place, "build")
         if not os.path.exists(self.saved):
-            shutil.copytree(ROOT, self.root, symlinks=True, ignore=shutil.ignore_patterns(".git"))
-            self.need(["rt", "check"])
+            shutil.copytree(ROOT, self.root, symlinks=True, ignore=shutil.ignore_patterns(".git", "out"))
             for crate in CRATES:
-                self.need(["rt", "dev", crate])
+                self.need(["rt", "check"], crate)
             self.need(["make", "--silent"] + MADE["face"] + MADE["label_lines"])
             self.need(["tests/second.sh", "5000", "1", "1"])
             self.need(["tests/independent.sh"])
             shutil.copytree(os.path.join(self.root, "build"), self.built)
-            shutil.copytree(os.path.join(self.root, "target"), self.saved, ignore=shutil.ignore_patterns("inc"))
-        elif subprocess.run(["diff", "-rq", os.path.join(ROOT, "crates"), os.path.join(self.root, "crates")], stdout=subprocess.DEVNULL).returncode:
+            for crate in CRATES:
+                shutil.copytree(self.out(crate), os.path.join(self.saved, crate))
+        elif subprocess.run(["diff", "-rq", "-x", "out", os.path.join(ROOT, "crates"), os.path.join(self.root, "crates")], stdout=subprocess.DEVNULL).returncode:
             sys.exit("the copy in %s has other crates: remove it" % place)
 
-    def need(self, command):
-        status, said = self.run(command)
-        if status != 0:
-            sys.exit("%s fails without a mutant:\n%s" % (" ".join(command), said[-2000:]))
+    def out(self, crate):
+        return os.path.join(self.root, "crates", crate, "out")
 
-    def run(self, command):
-        done = subprocess.run(command, cwd=self.root, stdout=subprocess.PIPE, stderr=subprocess.STDOUT, env=dict(os.environ, RT_CUT="0"))
+    def need(self, command, crate=""):
+        status, said = self.run(command, crate)
+        if status != 0:
+            sys.exit("%s fails without a mutant:\n%s" % (" ".join(command + [crate]), said[-2000:]))
+
+    def run(self, command, crate=""):
+        """the status of a command and what it says, at the top of the copy or in a crate's folder"""
+        folder = os.path.join(self.root, "crates", crate) if crate else self.root
+        done = subprocess.run(command, cwd=folder, stdin=subprocess.DEVNULL, stdout=subprocess.PIPE, stderr=subprocess.STDOUT)
         return done.returncode, done.stdout.decode("utf-8", "replace")
 
     def apply(self, mutant):
@@ -168,68 +175,60 @@ class Copy:
         if made:
             shutil.rmtree(os.path.join(self.root, "build"))
             shutil.copytree(self.built, os.path.join(self.root, "build"))
-        target = os.path.join(self.root, "target")
         for crate in proved:
-            for part in ("rlib/%s.rlib", "stamp/%s", "bin/%s", "obj/%s.o"):
-                path, kept = os.path.join(target, part % crate), os.path.join(self.saved, part % crate)
-                if os.path.isdir(kept):
-                    shutil.rmtree(path, ignore_errors=True)
-                    shutil.copytree(kept, path)
-                elif os.path.exists(kept):
-                    shutil.copy2(kept, path)
-                elif os.path.exists(path):
-                    os.remove(path)
+            shutil.rmtree(self.out(crate), ignore_errors=True)
+            shutil.copytree(os.path.join(self.saved, crate), self.out(crate))
 
 
-def first_error(said):
-    """where the first error is, and what it says, cut short"""
-    for pattern in (r"(?:\S*/crates/)?(\S+?):(\d+):\d+: error: (.*)", r"note: (?:\S*/crates/)?(\S+?):(\d+):\d+: (.*)"):
-        for line in said.split("\n"):
-            match = re.match(pattern, line)
-            if match:
-                return match.group(1), "%s:%s: %s" % (match.group(1), match.group(2), match.group(3)[:240])
-    lines = [line for line in said.split("\n") if "error" in line] or said.strip().split("\n")
-    return "", lines[0][:200]
+# an error's place and text, or a note's; places are below the crate's folder
+ERROR = re.compile(r"(?:note: )?(?:\./)?(\S+?):(\d+):\d+: (?:error(?:\[[\w-]+\])?: )?(.*)")
 
 
-# what the checker says where a proof does not fit the shape of the code, whatever the facts are
-SHAPE = ("that can be named from here", "has no field", "binders, but its type has room")
+def errors(said):
+    """the file of each error, and where it is and what it says, cut short; of each note where nothing is called an error"""
+    lines = [line for line in said.split("\n") if ERROR.match(line)]
+    found = [ERROR.match(line) for line in [line for line in lines if ": error" in line] or lines]
+    return [(m.group(1), "%s:%s: %s" % (m.group(1), m.group(2), m.group(3)[:240])) for m in found]
+
+
+# what the checker says where a proof does not fit the shape of the code or names what is gone, whatever the facts are; and of what cites such a proof
+SHAPE = ("that can be named from here", "has no field", "has no `", "is not in scope", "binders, but its type has room")
+CITED = ("was not admitted", "were not admitted")
 
 
 def refusal(crate, said):
-    """the verdict where a check of the crate failed"""
-    place, error = first_error(said)
-    if "is not what its file 'stdout' has" in said:
-        return "caught", "line program: the sample lines of document 01"
-    if "logic=not-proved" not in said:
-        return "error of the list", crate + ": " + error
-    if "/specs/" in place or any(sign in error for sign in SHAPE):
-        return "error of the list", crate + ": " + error
-    return "refused", crate + ": " + error
+    """the verdict where a check of the crate, or of a library below it, failed"""
+    below = re.search(r"^rt: the library (\w+) did not build", said, re.M)
+    crate = below.group(1) if below else crate
+    found = errors(said)
+    told = [error for _, error in found if not any(sign in error for sign in CITED)]
+    lines = [line for line in said.split("\n") if "error" in line or ": not proved" in line] or said.strip().split("\n")
+    error = crate + ": " + (told + [lines[0][:200]])[0]
+    if "\nlogic=not-proved" not in said or any(file.startswith("specs/") for file, _ in found):
+        return "error of the list", error
+    if told and any(sign in told[0] for sign in SHAPE):
+        return "error of the list", error
+    return "refused", error
 
 
 def ask(copy, mutant, proved, made):
     """the verdict on a mutant, and where it comes from; the crates that were proved anew and what was made of them are put down"""
     changed = mutant.changed()
-    status, said = copy.run(["rt", "dev", changed[0]])
-    if status != 0:
-        return refusal(changed[0], said)
     asked = [crate for crate in CRATES if crate in changed or crate in depending_on(changed)]
-    first = [crate for crate in asked if crate in mutant.ask]
-    for crate in first + [crate for crate in asked if crate not in first]:
+    first = changed[:1] + [crate for crate in asked if crate in mutant.ask]
+    for crate in dict.fromkeys(first + asked):
         proved.update([crate] + [c for c in asked if c in CRATES[crate]])
-        if crate == "face":
+        # rt check of these would prove them once more than their making does
+        if crate in MADE and crate != changed[0]:
             continue
-        status, said = copy.run(["rt", "check", crate])
+        status, said = copy.run(["rt", "check"], crate)
         if status != 0:
-            failed = re.search(r"^rt: FAILED: (\S+)", said, re.M)
-            return refusal(failed.group(1) if failed else crate, said)
-    # rt check of face would prove it once more than the making of its library does
+            return refusal(crate, said)
     for crate in (c for c in MADE if c in proved):
         made.add(crate)
         status, said = copy.run(["make", "--silent"] + MADE[crate])
         if status != 0:
-            with open(os.path.join(copy.root, "build/library.log"), encoding="utf-8") as log:
+            with open(os.path.join(copy.root, LOGS[crate]), encoding="utf-8") as log:
                 return refusal(crate, log.read())
     for name, command, seen in COMPARISONS:
         if made.intersection(seen):

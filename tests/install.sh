@@ -161,6 +161,7 @@ sed -n 's/^static inline .*\(thalinguze_[a-z_]*\)(.*/\1/p; s/^[a-z].* \(thalingu
 [ "$(wc -l <calls)" -gt 20 ] || fail 'too few calls in the header'
 while read -r call; do grep -q "$call(" page || fail "thalinguze.3 lacks $call"; done <calls
 sed -n '/^ *THALINGUZE_ACCEPTED/,/^}/s/^ *\(THALINGUZE_[A-Z_]*\) = \([0-9]*\).*/\1 \2/p' "$tree/include/thalinguze.h" | tail -n +2 >refusals
+[ "$(grep -vc '^THALINGUZE_AFTER_THE_END ' refusals)" = 14 ] || fail 'not 14 refusals of whole labels in the header'
 [ "$(wc -l <refusals)" = 15 ] || fail 'not 15 refusals in the header'
 while read -r name refusal; do grep -qx ".BR $name \" ($refusal)\"" page || fail "thalinguze.3 lacks $name"; done <refusals
 awk '/^\/\* Reads a label/ { inside = 1 } /^\.EE/ { inside = 0 } inside' page | diff - labels.c || fail 'thalinguze.3 has another example'

@@ -12,7 +12,8 @@ calls=$(nm "$library" | awk '
 echo 'the library has no writable data and calls nothing but functions on memory'
 
 exported=$(grep -v '^static' include/thalinguze.h | sed -n 's/^[a-z].* \(thalinguze_[a-z]*\)(.*/\1/p' | sort)
-[ "$(echo "$exported" | wc -l)" = 8 ] || { echo "the header declares $exported"; exit 1; }
+# five calls on whole labels, and three on labels in parts
+[ "$(echo "$exported" | grep -cvE '_(begin|part|end)$')" = 5 ] && [ "$(echo "$exported" | wc -l)" = 8 ] || { echo "the header declares $exported"; exit 1; }
 for file in "$library" "-D $shared"; do
     # shellcheck disable=SC2086 # -D is an option
     found=$(nm --defined-only --extern-only $file | awk 'NF == 3 { print $3 }' | sort)

@@ -63,7 +63,7 @@ of_row : {A : Type 0} (p : A → Bool) (xs : List A) → every_row p xs ≡ true
 unfolding every_row
 of_row p (y ∷ xs) e x (Memᴰ.head q) = rw q (and_left (p y) (every_row p xs) e)
 of_row p (y ∷ xs) e x (Memᴰ.tail m) = of_row p xs (and_right (p y) (every_row p xs) e) x m
-of_row {A = A} p [] e x x4 = elim x4 [ ]
+of_row p [] e x f = elim f [ ]
 
 -- PREFIXES AND UNITS
 

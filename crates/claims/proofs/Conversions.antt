@@ -55,7 +55,7 @@ unfolding every
 known_among x u (t ∷ ts) e (Memᴰ.head q) =
     false_true (sym u ∙ ap (λ (y : Term). is_known y.symbol) q ∙ and_left (is_known t.symbol) (every is_known ts) e)
 known_among x u (t ∷ ts) e (Memᴰ.tail m) = known_among x u ts (and_right (is_known t.symbol) (every is_known ts) e) m
-known_among x u [] e x3 = elim x3 [ ]
+known_among x u [] e f = elim f [ ]
 
 all_known : (ts : List Term) → every is_known ts ≡ true → UnknownTerm ts → ⊥
 all_known ts e u = known_among u.term (unknown_test u.term u.prefix u.letters u.is) ts e u.among
@@ -90,7 +90,7 @@ module _ (f g : ℕ → Exponent) where
   unfolding same_exponents
   all_same (c ∷ bs) e b (Memᴰ.head q) = rw q (same_whole_true (f c).0 (g c).0 (and_left (same_whole (f c).0 (g c).0) (same_exponents (map f bs) (map g bs)) e))
   all_same (c ∷ bs) e b (Memᴰ.tail m) = all_same bs (and_right (same_whole (f c).0 (g c).0) (same_exponents (map f bs) (map g bs)) e) b m
-  all_same [] e b x'' = elim x'' [ ]
+  all_same [] e b f = elim f [ ]
 
   one_differs : (bs : List ℕ) → same_exponents (map f bs) (map g bs) ≡ false → (b : ℕ) × Memᴰ b bs × ((f b).0 ≡ (g b).0 → ⊥)
   unfolding same_exponents
@@ -210,7 +210,7 @@ module _ (r q : Reading) where
     where
       below : {b : ℕ} → (b < base_count) ⊎ Memᴰ b [] → b < base_count
       below (inl h) = h
-      below {b = b} (inr x') = elim x' [ ]
+      below (inr f) = elim f [ ]
 
   -- 10
   record Wholes : Type 0 where
@@ -241,7 +241,7 @@ module _ (r q : Reading) where
       go p (Memᴰ.tail (Memᴰ.head x)) g = (rw x at g) (whole_number (record { 0 = ratio 3 })) (is_whole (ratio 3) w.three)
       go p (Memᴰ.tail (Memᴰ.tail (Memᴰ.head x))) g = (rw x at g) (whole_number (record { 0 = ratio 5 })) (is_whole (ratio 5) w.five)
       go p (Memᴰ.tail (Memᴰ.tail (Memᴰ.tail (Memᴰ.head x)))) g = (rw x at g) (whole_number (record { 0 = ratio 487 })) (is_whole (ratio 487) w.other)
-      go p (mathlib.Core.List.Memᴰ.tail (mathlib.Core.List.Memᴰ.tail (mathlib.Core.List.Memᴰ.tail (mathlib.Core.List.Memᴰ.tail x18)))) g = elim x18 [ ]
+      go p (Memᴰ.tail (Memᴰ.tail (Memᴰ.tail (Memᴰ.tail f)))) g = elim f [ ]
 
   fail_10 : four_whole ≡ false → Hinders r q 10
   fail_10 e = go (whole_test (ratio 2)) (whole_test (ratio 3)) (whole_test (ratio 5)) (whole_test (ratio 487)) refl refl refl refl e
@@ -360,5 +360,5 @@ module _ (r q : Reading) where
       go p (Memᴰ.tail (Memᴰ.head x)) g = (rw x at g) f.of_3 f.whole_3
       go p (Memᴰ.tail (Memᴰ.tail (Memᴰ.head x))) g = (rw x at g) f.of_5 f.whole_5
       go p (Memᴰ.tail (Memᴰ.tail (Memᴰ.tail (Memᴰ.head x)))) g = (rw x at g) f.of_487 f.whole_487
-      go p (mathlib.Core.List.Memᴰ.tail (mathlib.Core.List.Memᴰ.tail (mathlib.Core.List.Memᴰ.tail (mathlib.Core.List.Memᴰ.tail x19)))) g = elim x19 [ ]
+      go p (Memᴰ.tail (Memᴰ.tail (Memᴰ.tail (Memᴰ.tail f)))) g = elim f [ ]
   factor_clear x y z f w (outside n d k g o) = within_limits f w (outside n d k g o)

@@ -195,4 +195,4 @@ joined_apart (AllAudible.also a us) (AllAudible.also b bs) e = spaced_apart (All
 pub all_plain : {xs : List Said} → AllAudible xs → (w : Word) → w ∈ map spell xs → PlainWord w
 all_plain (AllAudible.also a us) w (inl e) = rw e a.plain
 all_plain (AllAudible.also a us) w (inr h) = all_plain us w h
-all_plain done w x3 = elim x3 [ ]
+all_plain done w f = elim f [ ]

@@ -42,7 +42,7 @@ every_in : (p : Word → Bool) (ws : List Word) → T (every_word p ws) → (w :
 unfolding every_word
 every_in p (v ∷ vs) t w (inl e) = rw e (both (p v) (every_word p vs) t).0
 every_in p (v ∷ vs) t w (inr h) = every_in p vs (both (p v) (every_word p vs) t).1 w h
-every_in p [] t w x'' = elim x'' [ ]
+every_in p [] t w f = elim f [ ]
 
 name_letters : (w : Word) → T (is_name w) → (1 ≤ length w) × T (all letter w)
 unfolding is_name

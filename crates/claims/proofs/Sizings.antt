@@ -210,7 +210,7 @@ at_prime f p (Memᴰ.head e) = (f.of_2, rw e f.whole_2)
 at_prime f p (Memᴰ.tail (Memᴰ.head e)) = (f.of_3, rw e f.whole_3)
 at_prime f p (Memᴰ.tail (Memᴰ.tail (Memᴰ.head e))) = (f.of_5, rw e f.whole_5)
 at_prime f p (Memᴰ.tail (Memᴰ.tail (Memᴰ.tail (Memᴰ.head e)))) = (f.of_487, rw e f.whole_487)
-at_prime {r = r} {q = q} {n = n} {d = d} {k = k} f p (mathlib.Core.List.Memᴰ.tail (mathlib.Core.List.Memᴰ.tail (mathlib.Core.List.Memᴰ.tail (mathlib.Core.List.Memᴰ.tail x16)))) = elim x16 [ ]
+at_prime f p (Memᴰ.tail (Memᴰ.tail (Memᴰ.tail (Memᴰ.tail h)))) = elim h [ ]
 
 whole_factor : {r q : Reading} → ((p : ℕ) → Memᴰ p primes → (w : ℤ) × WholeIn p r q w) → (n : ℕ) × (d : ℕ) × (k : ℤ) × FactorIs r q n d k
 whole_factor {r} {q} h =

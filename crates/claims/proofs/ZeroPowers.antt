@@ -31,7 +31,7 @@ zero_power (PowerRuns.fraction_runs d f) = ((λ e. absurd (omega (arith, e, d.po
 part_in : {r : Rules} {ps : List Part} → AllParts r ps → (p : Part) → p ∈ ps → PartBy r p
 part_in (AllParts.also d ds) p (inl e) = rw e d
 part_in (AllParts.also d ds) p (inr m) = part_in ds p m
-part_in {r = r} Rattle.label.proofs.Parts.done p x3 = elim x3 [ ]
+part_in AllParts.done p m = elim m [ ]
 
 pub zero_decimals_alone : ZeroDecimalsAlone
 zero_decimals_alone n s f ps d p m = zero_power (exponent_in_text (part_in (label_parts (derives_by d).2) p m).raised).by_runs

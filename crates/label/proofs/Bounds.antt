@@ -38,10 +38,10 @@ runs_short (decimal n es) e ds (inl q) = rw q (leb-true (length n.digits) 4 (and
 runs_short (decimal n es) e ds (inr (inl q)) = rw q (leb-true (length es) 4 (and_right (short n.digits) (short es) e))
 runs_short (fraction n es) e ds (inl q) = rw q (leb-true (length n.digits) 4 (and_left (short n.digits) (short es) e))
 runs_short (fraction n es) e ds (inr (inl q)) = rw q (leb-true (length es) 4 (and_right (short n.digits) (short es) e))
-runs_short unwritten e ds x'' = elim x'' [ ]
-runs_short (whole n) e ds (inr x4) = elim x4 [ ]
-runs_short (decimal n es) e ds (inr (inr x6)) = elim x6 [ ]
-runs_short (fraction n es) e ds (inr (inr x7)) = elim x7 [ ]
+runs_short unwritten e ds f = elim f [ ]
+runs_short (whole n) e ds (inr f) = elim f [ ]
+runs_short (decimal n es) e ds (inr (inr f)) = elim f [ ]
+runs_short (fraction n es) e ds (inr (inr f)) = elim f [ ]
 
 short_runs : (w : Written) → ((ds : List ℕ) → ds ∈ digit_runs w → length ds ≤ 4) → (ratio w).short ≡ true
 unfolding ratio
@@ -105,7 +105,7 @@ keeps_factor f (FactorKeeps.plain {k = k} a) = rw (le-leb k largest_k a) (_, ref
 values_keep : {ps : List Part} {us : List Placed} → Values ps us → (p : Part) → p ∈ ps → PowerKeeps p.power
 values_keep (Values.value {p = x} {e = e} h vs) p (inl q) = rw q (power_keeps x.turned x.power (e, h))
 values_keep (Values.value h vs) p (inr g) = values_keep vs p g
-values_keep Rattle.label.proofs.Refusals.no_values p x4 = elim x4 [ ]
+values_keep Values.no_values p q = elim q [ ]
 
 keep_values : (ps : List Part) → ((p : Part) → p ∈ ps → PowerKeeps p.power) → Given (valued_units ps)
 unfolding valued_units valued_unit

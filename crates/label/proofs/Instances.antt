@@ -79,8 +79,8 @@ fits_to (Fits.Fits.group d) = G.group (fits_to d)
 
 pub spelling_fits : {l : List ℕ} → SpellingBy fits_rules l → Letters l
 spelling_fits (SpellingBy.letters d) = d
-spelling_fits (Rattle.label.proofs.General.percent x'') = elim x'' [ ]
-spelling_fits {l = l} (Rattle.label.proofs.General.quoted x4 _) = elim x4 [ ]
+spelling_fits (SpellingBy.percent f) = absurd f
+spelling_fits (SpellingBy.quoted f _) = absurd f
 
 to_fits : {x : Kind} {s t : List ℕ} {ps : List Part} → G fits_rules x s t ps → Fits.Fits x s t ps
 to_fits (G.unit l e) = Fits.Fits.unit (spelling_fits l) (exponent_fits e)
@@ -94,11 +94,11 @@ to_fits (G.times (TimesBy.point f Pad.none Pad.none) d m) = Fits.Fits.times Fits
 to_fits (G.over (OverBy.slashed f p q) d m) = absurd f
 to_fits (G.plain d) = Fits.Fits.plain (to_fits d)
 to_fits (G.divided f d i) = Fits.Fits.over (to_fits d) (to_fits i)
-to_fits (Rattle.label.proofs.General.times {t = t} {u = u} {ps = ps} {qs = qs} (Rattle.label.proofs.General.space f (Rattle.label.proofs.General.space {s = s} x8 _)) d m) = elim x8 [ ]
-to_fits (Rattle.label.proofs.General.times {t = t} {u = u} {ps = ps} {qs = qs} (Rattle.label.proofs.General.star f Rattle.label.proofs.General.none (Rattle.label.proofs.General.space {s = s} x13 _)) d m) = elim x13 [ ]
-to_fits (Rattle.label.proofs.General.times {t = t} {u = u} {ps = ps} {qs = qs} (Rattle.label.proofs.General.star {b = b} f (Rattle.label.proofs.General.space {s = s} x13 _) _) d m) = elim x13 [ ]
-to_fits (Rattle.label.proofs.General.times {t = t} {u = u} {ps = ps} {qs = qs} (Rattle.label.proofs.General.point f Rattle.label.proofs.General.none (Rattle.label.proofs.General.space {s = s} x14 _)) d m) = elim x14 [ ]
-to_fits (Rattle.label.proofs.General.times {t = t} {u = u} {ps = ps} {qs = qs} (Rattle.label.proofs.General.point {b = b} f (Rattle.label.proofs.General.space {s = s} x14 _) _) d m) = elim x14 [ ]
+to_fits (G.times (TimesBy.space _ (Pad.space f _)) _ _) = absurd f
+to_fits (G.times (TimesBy.star _ Pad.none (Pad.space f _)) _ _) = absurd f
+to_fits (G.times (TimesBy.star _ (Pad.space f _) _) _ _) = absurd f
+to_fits (G.times (TimesBy.point _ Pad.none (Pad.space f _)) _ _) = absurd f
+to_fits (G.times (TimesBy.point _ (Pad.space f _) _) _ _) = absurd f
 
 fits_factor : {x : List ℕ} {f : Factor} → Fits.Tens x f → FactorBy fits_rules x f
 fits_factor (Fits.Tens.stars w) = FactorBy.stars (wrapped_by tt w)
@@ -109,7 +109,7 @@ factor_fits : {x : List ℕ} {f : Factor} → FactorBy fits_rules x f → Fits.T
 factor_fits (FactorBy.stars w) = Fits.Tens.stars (by_wrapped w)
 factor_fits (FactorBy.caret f w) = Fits.Tens.caret (by_wrapped w)
 factor_fits (FactorBy.signed f i) = Fits.Tens.signed i
-factor_fits (Rattle.label.proofs.General.plain {k = k} x7 _) = elim x7 [ ]
+factor_fits (FactorBy.plain f _) = absurd f
 
 fits_gap : {g : List ℕ} → Fits.Gap g → GapBy fits_rules g
 fits_gap Fits.Gap.nothing = GapBy.nothing
@@ -118,7 +118,7 @@ fits_gap Fits.Gap.space = GapBy.one tt
 gap_fits : {g : List ℕ} → GapBy fits_rules g → Fits.Gap g
 gap_fits GapBy.nothing = Fits.Gap.nothing
 gap_fits (GapBy.one f) = Fits.Gap.space
-gap_fits {g = g} (Rattle.label.proofs.General.many x3 _) = elim x3 [ ]
+gap_fits (GapBy.many f _) = absurd f
 
 pub fits_label : {s : List ℕ} {f : Factor} {ps : List Part} → Fits.Label s f ps → LabelBy fits_rules s f ps
 fits_label Fits.Label.empty = LabelBy.empty
@@ -149,7 +149,7 @@ ogip_times (Ogip.Times.star p q) = TimesBy.star tt (spaces_pad p) (spaces_pad q)
 times_ogip : {j : List ℕ} → TimesBy ogip_rules j → Ogip.Times j
 times_ogip (TimesBy.space f p) = Ogip.Times.spaces (pad_spaces p)
 times_ogip (TimesBy.star f p q) = Ogip.Times.star (pad_spaces p) (pad_spaces q)
-times_ogip (Rattle.label.proofs.General.point {a = a} {b = b} x4 _ _) = elim x4 [ ]
+times_ogip (TimesBy.point f _ _) = absurd f
 
 ogip_over : {j : List ℕ} → Ogip.Over j → OverBy ogip_rules j
 ogip_over (Ogip.Over.slashed p q) = OverBy.slashed tt (spaces_pad p) (spaces_pad q)
@@ -159,8 +159,8 @@ over_ogip (OverBy.slashed f p q) = Ogip.Over.slashed (pad_spaces p) (pad_spaces 
 
 pub spelling_ogip : {l : List ℕ} → SpellingBy ogip_rules l → Letters l
 spelling_ogip (SpellingBy.letters d) = d
-spelling_ogip (Rattle.label.proofs.General.percent x'') = elim x'' [ ]
-spelling_ogip {l = l} (Rattle.label.proofs.General.quoted x4 _) = elim x4 [ ]
+spelling_ogip (SpellingBy.percent f) = absurd f
+spelling_ogip (SpellingBy.quoted f _) = absurd f
 
 ogip_to : {x : Kind} {s t : List ℕ} {ps : List Part} → Ogip.Ogip x s t ps → G ogip_rules x s t ps
 ogip_to (Ogip.Ogip.unit l e) = G.unit (SpellingBy.letters l) (starred_by tt e)
@@ -180,7 +180,7 @@ to_ogip G.done = Ogip.Ogip.done
 to_ogip (G.times j d m) = Ogip.Ogip.times (times_ogip j) (to_ogip d) (to_ogip m)
 to_ogip (G.over j d m) = Ogip.Ogip.over (over_ogip j) (to_ogip d) (to_ogip m)
 to_ogip (G.plain d) = to_ogip d
-to_ogip (Rattle.label.proofs.General.divided {s = s} {t = t} {u = u} {ps = ps} {qs = qs} x'' _ _) = elim x'' [ ]
+to_ogip (G.divided f _ _) = absurd f
 
 ogip_factor : {x : List ℕ} {f : Factor} → Ogip.Tens x f → FactorBy ogip_rules x f
 ogip_factor (Ogip.Tens.stars w) = FactorBy.stars (wrapped_by tt w)
@@ -189,8 +189,8 @@ ogip_factor (Ogip.Tens.plain p) = FactorBy.plain tt p
 factor_ogip : {x : List ℕ} {f : Factor} → FactorBy ogip_rules x f → Ogip.Tens x f
 factor_ogip (FactorBy.stars w) = Ogip.Tens.stars (by_wrapped w)
 factor_ogip (FactorBy.plain f p) = Ogip.Tens.plain p
-factor_ogip (Rattle.label.proofs.General.caret {e = e} {n = n} x6 _) = elim x6 [ ]
-factor_ogip (Rattle.label.proofs.General.signed {e = e} {n = n} x7 _) = elim x7 [ ]
+factor_ogip (FactorBy.caret f _) = absurd f
+factor_ogip (FactorBy.signed f _) = absurd f
 
 gap_ogip : {g : List ℕ} → GapBy ogip_rules g → Spaces g
 gap_ogip GapBy.nothing = Spaces.none
@@ -206,7 +206,7 @@ pub label_ogip : {s : List ℕ} {f : Factor} {ps : List Part} → LabelBy ogip_r
 label_ogip LabelBy.empty = Ogip.Label.empty
 label_ogip (LabelBy.plain u d) = Ogip.Label.plain u (to_ogip d)
 label_ogip (LabelBy.factored l x g d) = Ogip.Label.factored (factor_ogip x) (gap_ogip g) (to_ogip d)
-label_ogip (Rattle.label.proofs.General.under {s = s} {ps = ps} x7 _) = elim x7 [ ]
+label_ogip (LabelBy.under f _) = absurd f
 
 -- CDS
 
@@ -217,9 +217,9 @@ cds_exponent (Cds.Exponent.integer i) = ExponentBy.integer tt i
 exponent_cds : {e : List ℕ} {w : Written} → ExponentBy cds_rules e w → Cds.Exponent e w
 exponent_cds ExponentBy.none = Cds.Exponent.none
 exponent_cds (ExponentBy.integer f i) = Cds.Exponent.integer i
-exponent_cds {e = e} {w = w} (Rattle.label.proofs.General.bracketed x5 _) = elim x5 [ ]
-exponent_cds {w = w} (Rattle.label.proofs.General.stars {e = e} x6 _) = elim x6 [ ]
-exponent_cds {w = w} (Rattle.label.proofs.General.caret {e = e} x7 _) = elim x7 [ ]
+exponent_cds (ExponentBy.bracketed f _) = absurd f
+exponent_cds (ExponentBy.stars f _) = absurd f
+exponent_cds (ExponentBy.caret f _) = absurd f
 
 pub cds_spelling : {l : List ℕ} → Cds.Spelling l → SpellingBy cds_rules l
 cds_spelling (Cds.Spelling.letters d) = SpellingBy.letters d
@@ -228,7 +228,7 @@ cds_spelling Cds.Spelling.percent = SpellingBy.percent tt
 pub spelling_cds : {l : List ℕ} → SpellingBy cds_rules l → Cds.Spelling l
 spelling_cds (SpellingBy.letters d) = Cds.Spelling.letters d
 spelling_cds (SpellingBy.percent f) = Cds.Spelling.percent
-spelling_cds {l = l} (Rattle.label.proofs.General.quoted x3 _) = elim x3 [ ]
+spelling_cds (SpellingBy.quoted f _) = absurd f
 
 cds_to : {x : Kind} {s t : List ℕ} {ps : List Part} → Cds.Cds x s t ps → G cds_rules x s t ps
 cds_to (Cds.Cds.unit l e) = G.unit (cds_spelling l) (cds_exponent e)
@@ -248,15 +248,15 @@ to_cds G.done = Cds.Cds.done
 to_cds (G.times (TimesBy.point f Pad.none Pad.none) d m) = Cds.Cds.times (to_cds d) (to_cds m)
 to_cds (G.over (OverBy.slashed f Pad.none Pad.none) d m) = Cds.Cds.over (to_cds d) (to_cds m)
 to_cds (G.plain d) = to_cds d
-to_cds (Rattle.label.proofs.General.under {t = t} {u = u} {ps = ps} {qs = qs} (Rattle.label.proofs.General.slashed f Rattle.label.proofs.General.none (Rattle.label.proofs.General.space {s = s} x12 _)) d m) = elim x12 [ ]
-to_cds (Rattle.label.proofs.General.under {t = t} {u = u} {ps = ps} {qs = qs} (Rattle.label.proofs.General.slashed {b = b} f (Rattle.label.proofs.General.space {s = s} x12 _) _) d m) = elim x12 [ ]
-to_cds (Rattle.label.proofs.General.times {s = s} {t = t} {u = u} {ps = ps} {qs = qs} (Rattle.label.proofs.General.space {a = a} x7 _) d m) = elim x7 [ ]
-to_cds (Rattle.label.proofs.General.times {s = s} {t = t} {u = u} {ps = ps} {qs = qs} (Rattle.label.proofs.General.star {a = a} {b = b} x9 _ _) d m) = elim x9 [ ]
-to_cds (Rattle.label.proofs.General.times {t = t} {u = u} {ps = ps} {qs = qs} (Rattle.label.proofs.General.point f Rattle.label.proofs.General.none (Rattle.label.proofs.General.space {s = s} x15 _)) d m) = elim x15 [ ]
-to_cds (Rattle.label.proofs.General.times {t = t} {u = u} {ps = ps} {qs = qs} (Rattle.label.proofs.General.point {b = b} f (Rattle.label.proofs.General.space {s = s} x15 _) _) d m) = elim x15 [ ]
-to_cds (Rattle.label.proofs.General.over {t = t} {u = u} {ps = ps} {qs = qs} (Rattle.label.proofs.General.slashed f Rattle.label.proofs.General.none (Rattle.label.proofs.General.space {s = s} x14 _)) d m) = elim x14 [ ]
-to_cds (Rattle.label.proofs.General.over {t = t} {u = u} {ps = ps} {qs = qs} (Rattle.label.proofs.General.slashed {b = b} f (Rattle.label.proofs.General.space {s = s} x14 _) _) d m) = elim x14 [ ]
-to_cds (Rattle.label.proofs.General.divided {s = s} {t = t} {u = u} {ps = ps} {qs = qs} x5 _ _) = elim x5 [ ]
+to_cds (G.under (OverBy.slashed _ Pad.none (Pad.space f _)) _ _) = absurd f
+to_cds (G.under (OverBy.slashed _ (Pad.space f _) _) _ _) = absurd f
+to_cds (G.times (TimesBy.space f _) _ _) = absurd f
+to_cds (G.times (TimesBy.star f _ _) _ _) = absurd f
+to_cds (G.times (TimesBy.point _ Pad.none (Pad.space f _)) _ _) = absurd f
+to_cds (G.times (TimesBy.point _ (Pad.space f _) _) _ _) = absurd f
+to_cds (G.over (OverBy.slashed _ Pad.none (Pad.space f _)) _ _) = absurd f
+to_cds (G.over (OverBy.slashed _ (Pad.space f _) _) _ _) = absurd f
+to_cds (G.divided f _ _) = absurd f
 
 cds_factor : {x : List ℕ} {f : Factor} → Cds.Tens x f → FactorBy cds_rules x f
 cds_factor (Cds.Tens.stars i) = FactorBy.stars (WrappedBy.bare i)
@@ -267,8 +267,8 @@ factor_cds : {x : List ℕ} {f : Factor} → FactorBy cds_rules x f → Cds.Tens
 factor_cds (FactorBy.stars (WrappedBy.bare i)) = Cds.Tens.stars i
 factor_cds (FactorBy.signed f i) = Cds.Tens.signed i
 factor_cds (FactorBy.plain f p) = Cds.Tens.plain p
-factor_cds (Rattle.label.proofs.General.stars {n = n} (Rattle.label.proofs.General.bracketed {s = s} x9 _)) = elim x9 [ ]
-factor_cds (Rattle.label.proofs.General.caret {e = e} {n = n} x7 _) = elim x7 [ ]
+factor_cds (FactorBy.stars (WrappedBy.bracketed f _)) = absurd f
+factor_cds (FactorBy.caret f _) = absurd f
 
 pub cds_label : {s : List ℕ} {f : Factor} {ps : List Part} → Cds.Label s f ps → LabelBy cds_rules s f ps
 cds_label Cds.Label.empty = LabelBy.empty
@@ -279,9 +279,9 @@ pub label_cds : {s : List ℕ} {f : Factor} {ps : List Part} → LabelBy cds_rul
 label_cds LabelBy.empty = Cds.Label.empty
 label_cds (LabelBy.plain u d) = Cds.Label.plain (to_cds d)
 label_cds (LabelBy.factored l x GapBy.nothing d) = Cds.Label.factored (factor_cds x) (to_cds d)
-label_cds (Rattle.label.proofs.General.under {s = s} {ps = ps} x7 _) = elim x7 [ ]
-label_cds {f = f} {ps = ps} (Rattle.label.proofs.General.factored {s = s} l x (Rattle.label.proofs.General.one x13) d) = elim x13 [ ]
-label_cds {f = f} {ps = ps} (Rattle.label.proofs.General.factored {g = g} {s = s} l x (Rattle.label.proofs.General.many x14 _) d) = elim x14 [ ]
+label_cds (LabelBy.under f _) = absurd f
+label_cds (LabelBy.factored _ _ (GapBy.one f) _) = absurd f
+label_cds (LabelBy.factored _ _ (GapBy.many f _) _) = absurd f
 
 -- VOUNITS
 
@@ -292,7 +292,7 @@ vounits_spelling (Vounits.Spelling.quoted d) = SpellingBy.quoted tt d
 pub spelling_vounits : {l : List ℕ} → SpellingBy vounits_rules l → Vounits.Spelling l
 spelling_vounits (SpellingBy.letters d) = Vounits.Spelling.letters d
 spelling_vounits (SpellingBy.quoted f d) = Vounits.Spelling.quoted d
-spelling_vounits (Rattle.label.proofs.General.percent x'') = elim x'' [ ]
+spelling_vounits (SpellingBy.percent f) = absurd f
 
 vounits_to : {x : Kind} {s t : List ℕ} {ps : List Part} → Vounits.Vounits x s t ps → G vounits_rules x s t ps
 vounits_to (Vounits.Vounits.unit l e) = G.unit (vounits_spelling l) (starred_by tt e)
@@ -313,10 +313,10 @@ to_vounits (G.times (TimesBy.point f Pad.none Pad.none) d m) = Vounits.Vounits.t
 to_vounits (G.over (OverBy.slashed f p q) d m) = absurd f
 to_vounits (G.plain d) = Vounits.Vounits.plain (to_vounits d)
 to_vounits (G.divided f d i) = Vounits.Vounits.over (to_vounits d) (to_vounits i)
-to_vounits (Rattle.label.proofs.General.times {s = s} {t = t} {u = u} {ps = ps} {qs = qs} (Rattle.label.proofs.General.space {a = a} x6 _) d m) = elim x6 [ ]
-to_vounits (Rattle.label.proofs.General.times {s = s} {t = t} {u = u} {ps = ps} {qs = qs} (Rattle.label.proofs.General.star {a = a} {b = b} x8 _ _) d m) = elim x8 [ ]
-to_vounits (Rattle.label.proofs.General.times {t = t} {u = u} {ps = ps} {qs = qs} (Rattle.label.proofs.General.point f Rattle.label.proofs.General.none (Rattle.label.proofs.General.space {s = s} x14 _)) d m) = elim x14 [ ]
-to_vounits (Rattle.label.proofs.General.times {t = t} {u = u} {ps = ps} {qs = qs} (Rattle.label.proofs.General.point {b = b} f (Rattle.label.proofs.General.space {s = s} x14 _) _) d m) = elim x14 [ ]
+to_vounits (G.times (TimesBy.space f _) _ _) = absurd f
+to_vounits (G.times (TimesBy.star f _ _) _ _) = absurd f
+to_vounits (G.times (TimesBy.point _ Pad.none (Pad.space f _)) _ _) = absurd f
+to_vounits (G.times (TimesBy.point _ (Pad.space f _) _) _ _) = absurd f
 
 vounits_factor : {x : List ℕ} {f : Factor} → Vounits.Tens x f → FactorBy vounits_rules x f
 vounits_factor (Vounits.Tens.stars w) = FactorBy.stars (wrapped_by tt w)
@@ -325,8 +325,8 @@ vounits_factor (Vounits.Tens.plain p) = FactorBy.plain tt p
 factor_vounits : {x : List ℕ} {f : Factor} → FactorBy vounits_rules x f → Vounits.Tens x f
 factor_vounits (FactorBy.stars w) = Vounits.Tens.stars (by_wrapped w)
 factor_vounits (FactorBy.plain f p) = Vounits.Tens.plain p
-factor_vounits (Rattle.label.proofs.General.caret {e = e} {n = n} x6 _) = elim x6 [ ]
-factor_vounits (Rattle.label.proofs.General.signed {e = e} {n = n} x7 _) = elim x7 [ ]
+factor_vounits (FactorBy.caret f _) = absurd f
+factor_vounits (FactorBy.signed f _) = absurd f
 
 pub vounits_label : {s : List ℕ} {f : Factor} {ps : List Part} → Vounits.Label s f ps → LabelBy vounits_rules s f ps
 vounits_label Vounits.Label.empty = LabelBy.empty
@@ -337,9 +337,9 @@ pub label_vounits : {s : List ℕ} {f : Factor} {ps : List Part} → LabelBy vou
 label_vounits LabelBy.empty = Vounits.Label.empty
 label_vounits (LabelBy.plain u d) = Vounits.Label.plain (to_vounits d)
 label_vounits (LabelBy.factored l x GapBy.nothing d) = Vounits.Label.factored (factor_vounits x) (to_vounits d)
-label_vounits (Rattle.label.proofs.General.under {s = s} {ps = ps} x7 _) = elim x7 [ ]
-label_vounits {f = f} {ps = ps} (Rattle.label.proofs.General.factored {s = s} l x (Rattle.label.proofs.General.one x13) d) = elim x13 [ ]
-label_vounits {f = f} {ps = ps} (Rattle.label.proofs.General.factored {g = g} {s = s} l x (Rattle.label.proofs.General.many x14 _) d) = elim x14 [ ]
+label_vounits (LabelBy.under f _) = absurd f
+label_vounits (LabelBy.factored _ _ (GapBy.one f) _) = absurd f
+label_vounits (LabelBy.factored _ _ (GapBy.many f _) _) = absurd f
 
 -- STARLINK
 
@@ -354,8 +354,8 @@ starlink_to (Starlink.Starlink.group d) = G.group (starlink_to d)
 
 pub spelling_starlink : {l : List ℕ} → SpellingBy starlink_rules l → Letters l
 spelling_starlink (SpellingBy.letters d) = d
-spelling_starlink (Rattle.label.proofs.General.percent x'') = elim x'' [ ]
-spelling_starlink {l = l} (Rattle.label.proofs.General.quoted x4 _) = elim x4 [ ]
+spelling_starlink (SpellingBy.percent f) = absurd f
+spelling_starlink (SpellingBy.quoted f _) = absurd f
 
 to_starlink : {x : Kind} {s t : List ℕ} {ps : List Part} → G starlink_rules x s t ps → Starlink.Starlink x s t ps
 to_starlink (G.unit l e) = Starlink.Starlink.unit (spelling_starlink l) (by_starred refl refl refl e)
@@ -367,10 +367,10 @@ to_starlink (G.times (TimesBy.star f Pad.none Pad.none) d m) = Starlink.Starlink
 to_starlink (G.over (OverBy.slashed f p q) d m) = absurd f
 to_starlink (G.plain d) = Starlink.Starlink.plain (to_starlink d)
 to_starlink (G.divided f d i) = Starlink.Starlink.over (to_starlink d) (to_starlink i)
-to_starlink (Rattle.label.proofs.General.times {s = s} {t = t} {u = u} {ps = ps} {qs = qs} (Rattle.label.proofs.General.space {a = a} x6 _) d m) = elim x6 [ ]
-to_starlink (Rattle.label.proofs.General.times {t = t} {u = u} {ps = ps} {qs = qs} (Rattle.label.proofs.General.star f Rattle.label.proofs.General.none (Rattle.label.proofs.General.space {s = s} x13 _)) d m) = elim x13 [ ]
-to_starlink (Rattle.label.proofs.General.times {t = t} {u = u} {ps = ps} {qs = qs} (Rattle.label.proofs.General.star {b = b} f (Rattle.label.proofs.General.space {s = s} x13 _) _) d m) = elim x13 [ ]
-to_starlink (Rattle.label.proofs.General.times {s = s} {t = t} {u = u} {ps = ps} {qs = qs} (Rattle.label.proofs.General.point {a = a} {b = b} x9 _ _) d m) = elim x9 [ ]
+to_starlink (G.times (TimesBy.space f _) _ _) = absurd f
+to_starlink (G.times (TimesBy.star _ Pad.none (Pad.space f _)) _ _) = absurd f
+to_starlink (G.times (TimesBy.star _ (Pad.space f _) _) _ _) = absurd f
+to_starlink (G.times (TimesBy.point f _ _) _ _) = absurd f
 
 pub starlink_label : {s : List ℕ} {f : Factor} {ps : List Part} → Starlink.Label s f ps → LabelBy starlink_rules s f ps
 starlink_label Starlink.Label.empty = LabelBy.empty
@@ -379,5 +379,5 @@ starlink_label (Starlink.Label.plain d) = plain_label refl (starlink_to d)
 pub label_starlink : {s : List ℕ} {f : Factor} {ps : List Part} → LabelBy starlink_rules s f ps → Starlink.Label s f ps
 label_starlink LabelBy.empty = Starlink.Label.empty
 label_starlink (LabelBy.plain u d) = Starlink.Label.plain (to_starlink d)
-label_starlink (Rattle.label.proofs.General.under {s = s} {ps = ps} x7 _) = elim x7 [ ]
-label_starlink {f = f} {ps = ps} (Rattle.label.proofs.General.factored {g = g} {s = s} x15 _ _ _) = elim x15 [ ]
+label_starlink (LabelBy.under f _) = absurd f
+label_starlink (LabelBy.factored f _ _ _) = absurd f

@@ -30,7 +30,7 @@ every_at : (f : Symbol → Bool) (ts : List Term) → every f ts ≡ true → (t
 unfolding every
 every_at f (x ∷ ts) e t (inl q) = rw q (and_left (f x.symbol) (every f ts) e)
 every_at f (x ∷ ts) e t (inr h) = every_at f ts (and_right (f x.symbol) (every f ts) e) t h
-every_at f [] e t x'' = elim x'' [ ]
+every_at f [] e t h = elim h [ ]
 
 at_every : (f : Symbol → Bool) (ts : List Term) → ((t : Term) → t ∈ ts → f t.symbol ≡ true) → every f ts ≡ true
 unfolding every
@@ -175,7 +175,7 @@ at_primes P a b c d p (inl e) = rw e a
 at_primes P a b c d p (inr (inl e)) = rw e b
 at_primes P a b c d p (inr (inr (inl e))) = rw e c
 at_primes P a b c d p (inr (inr (inr (inl e)))) = rw e d
-at_primes P a b c d p (inr (inr (inr (inr x4)))) = elim x4 [ ]
+at_primes P a b c d p (inr (inr (inr (inr f)))) = elim f [ ]
 
 in_tens_is : (p : ℕ) → p ∈ four_primes → (t : Tens) → in_tens p t ≡ prime_in_ten p t.0
 in_tens_is p h t = at_primes (λ p. in_tens p t ≡ prime_in_ten p t.0) refl refl refl refl p h

@@ -80,7 +80,7 @@ in_is_in : (l : List ℕ) (ms : List (List ℕ)) → l ∈ ms → is_in l ms ≡
 unfolding is_in
 in_is_in l (m ∷ ms) (inl e) = or_left (same l m) (is_in l ms) (rw e (same_refl m))
 in_is_in l (m ∷ ms) (inr h) = or_right (same l m) (is_in l ms) (in_is_in l ms h)
-in_is_in l [] x' = elim x' [ ]
+in_is_in l [] f = elim f [ ]
 
 -- two lists share a name
 shares : List (List ℕ) → List (List ℕ) → Bool
@@ -103,7 +103,7 @@ shared_shares : (xs ls : List (List ℕ)) (l : List ℕ) → l ∈ xs → l ∈ 
 unfolding shares
 shared_shares (x ∷ xs) ls l (inl e) h = or_left (is_in x ls) (shares xs ls) (rw (← e) (in_is_in l ls h))
 shared_shares (x ∷ xs) ls l (inr g) h = or_right (is_in x ls) (shares xs ls) (shared_shares xs ls l g h)
-shared_shares [] ls l x'' h = elim x'' [ ]
+shared_shares [] ls l f h = elim f [ ]
 
 abbrev names_of : KnownUnit → List (List ℕ)
 names_of u = map (λ (x : Name). x.letters) u.names
@@ -159,7 +159,7 @@ starlink_as_ogip l f g = go (is_in l apart) refl
         neither : l ∈ apart → ⊥
         neither (inl e) = f e
         neither (inr (inl e)) = g e
-        neither (inr (inr x3)) = elim x3 [ ]
+        neither (inr (inr f)) = elim f [ ]
     go false e = rows_as_ogip l e 0 units all_names_shared
 
 pub ang_for_angstrom : (u : ℕ) × (unit_named starlink (bytes "Ang") ≡ some u) × (unit_named ogip (bytes "angstrom") ≡ some u)

@@ -7,7 +7,7 @@ pub returns-then-size-gt-MOST_LETTERS : goal.returns-then-size-gt-MOST_LETTERS
 returns-then-size-gt-MOST_LETTERS c = too_long _ c.if-size-gt-MOST_LETTERS.true
 
 pub loop-i-init : goal.loop-i-init
-loop-i-init c = search_start _ _ c.shared_slice_known-1.given c.key-number.ensures
+loop-i-init c = search_start _ _ c.type_inv.name c.key-number.ensures
 
 pub returns-then-compare : goal.returns-then-compare
 unfolding named

@@ -1,4 +1,5 @@
 -- `record::fields::term_fields` meets its contract.
+use borrow.Author.Rules.{rules}
 use native.Mathlib.Omega.{arith}
 use mathlib.Core.Path.{refl}
 use lib.IntN.{pos}
@@ -11,12 +12,12 @@ use Rattle.record.proofs.fields.term_fields.Goals as goal
 
 pub overflow_cast-result-3 : goal.overflow_cast-result-3
 overflow_cast-result-3 c =
-    let exponent_fits : SFits w32 (get_or c.args.exponents.now c.args.i (pos 0)) = record { sfits = c.result-1.given } in
+    let exponent_fits : SFits w32 (get_or c.args.exponents.now c.args.i (pos 0)) = record { sfits = search rules } in
     widened exponent_fits
 
 pub returns : goal.returns
 returns c =
-    let exponent_fits : SFits w32 (get_or c.args.exponents.now c.args.i (pos 0)) = record { sfits = c.result-1.given } in
+    let exponent_fits : SFits w32 (get_or c.args.exponents.now c.args.i (pos 0)) = record { sfits = search rules } in
     record {
       result_len = refl;
       by_index = term_is c.args.names.now c.requires.1 (omega arith) (omega arith) (omega arith) (omega arith)

@@ -13,4 +13,4 @@ returns-then-size-gt-MOST_LETTERS c = own_long _ _ (length_between _ _ _ c.requi
 
 pub returns : goal.returns
 returns c =
-    own_spelled (spelled_part _ _ _ (omega arith) c.requires c.shared_slice_known-1.given _ c.key-number.ensures)
+    own_spelled (spelled_part _ _ _ (omega arith) c.requires c.type_inv.s _ c.key-number.ensures)

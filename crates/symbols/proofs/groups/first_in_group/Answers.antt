@@ -1,4 +1,5 @@
 -- `symbols::groups::first_in_group` meets its contract: each arm is computed from the table of names.
+use borrow.Author.Rules.{rules}
 use mathlib.Core.Path.{sym, ap}
 use Rattle.symbols.proofs.GroupLaws.{start, start_computes, no_start}
 use Rattle.symbols.proofs.groups.first_in_group.Goals as goal
@@ -241,4 +242,4 @@ returns-in-144 c = sym (ap start c.in-144.is)
 
 pub returns-in_default : goal.returns-in_default
 unfolding start_computes
-returns-in_default c = sym (no_start c.args.group c.in_default.in_default-own.rest)
+returns-in_default c = sym (no_start c.args.group (search rules))

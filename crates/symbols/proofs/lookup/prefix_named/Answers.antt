@@ -12,7 +12,7 @@ returns-then-size-gt-MOST_LETTERS c =
 pub loop-i-init : goal.loop-i-init
 loop-i-init c =
     search_none c.requires.prefixes_value
-    (spelled_part c.args.s.now c.args.start c.args.end c.requires.start_le_end.0 c.requires.start_le_end.1 c.shared_slice_known-2-1.given _ c.key-number.ensures)
+    (spelled_part c.args.s.now c.args.start c.args.end c.requires.start_le_end.0 c.requires.start_le_end.1 c.type_inv.s _ c.key-number.ensures)
 
 pub bounds-prefixes-i : goal.bounds-prefixes-i
 bounds-prefixes-i c = omega (arith, codes_count c.loop-i.invariant.column)

@@ -12,7 +12,7 @@ returns-then-size-gt-MOST_LETTERS c =
 
 pub loop-i-init : goal.loop-i-init
 loop-i-init c =
-    let spelled = spelled_part c.args.s.now c.args.start c.args.end c.requires.start_le_end.0 c.requires.start_le_end.1 c.shared_slice_known-3-1.given _ c.key-number.ensures in
+    let spelled = spelled_part c.args.s.now c.args.start c.args.end c.requires.start_le_end.0 c.requires.start_le_end.1 c.type_inv.s _ c.key-number.ensures in
     rw c.first_in_group-i.ensures (search_start c.requires.name_columns spelled)
 
 pub bounds-codes-i : goal.bounds-codes-i

@@ -8,12 +8,5 @@ use scan::class::within;
 pub fn all_admitted(s: &[u8]) -> bool
     ensures { result ≡ all admitted s.now }
 {
-    let mut i = 0;
-    while i < s.len() {
-        if !within(s[i], b' ', b'~') {
-            return false;
-        }
-        i += 1;
-    }
-    true
+    s.iter().all(|c| within(*c, b' ', b'~'))
 }

@@ -88,14 +88,14 @@ times_sum a (negsuc n) k = (times_sum_at n a k).1
 -- A PRODUCT ADDED TO A SUM, AS THE MACHINE HOLDS THEM
 
 -- 32 bits held in 64
-pub widened : {z : ℤ} → SFits w32 z → SFits w64 (to_z w32 (of_z w32 z))
-widened f = rw (to_z-of_z f) (sfits_widen tt f)
+widened : {z : ℤ} → SFits w32 z → SFits w64 z
+widened f = sfits_widen tt f
 
-pub widened_is : {z : ℤ} → SFits w32 z → to_z w64 (of_z w64 (to_z w32 (of_z w32 z))) ≡ z
-widened_is f = to_z-of_z (widened f) ∙ to_z-of_z f
+widened_is : {z : ℤ} → SFits w32 z → to_z w64 (of_z w64 z) ≡ z
+widened_is f = to_z-of_z (widened f)
 
 abbrev product : ℤ → ℤ → ℤ
-product power e = to_z w64 (of_z w64 (to_z w32 (of_z w32 power))) *ℤ to_z w64 (of_z w64 (to_z w32 (of_z w32 e)))
+product power e = to_z w64 (of_z w64 power) *ℤ to_z w64 (of_z w64 e)
 
 module _ {power e : ℤ} (f : SFits w32 power) (g : SFits w32 e) (small : nat_abs power ≤ 60) where
   product_is : product power e ≡ power *ℤ e
@@ -104,7 +104,7 @@ module _ {power e : ℤ} (f : SFits w32 power) (g : SFits w32 e) (small : nat_ab
   product_size : nat_abs (power *ℤ e) ≤ 60 * 2 ^ 31
   product_size = let h : nat_abs e ≤ 2 ^ 31 = omega (arith, abs_mag e, g.sfits) in product_within power e small h
 
-  pub product_fits : SFits w64 (product power e)
+  product_fits : SFits w64 (product power e)
   product_fits = rw product_is (wide_fits (omega (arith, product_size)))
 
   module _ {sum : ℤ} (h : SFits w64 sum) (room : nat_abs sum ≤ 2 ^ 62) where
@@ -117,29 +117,14 @@ module _ {power e : ℤ} (f : SFits w32 power) (g : SFits w32 e) (small : nat_ab
     total_size : nat_abs (sum +ℤ power *ℤ e) ≤ nat_abs sum + 2 ^ 37
     total_size = omega (arith, abs_sum sum (power *ℤ e), product_size)
 
-    pub sum_fits : SFits w64 total
+    sum_fits : SFits w64 total
     sum_fits = rw total_is (wide_fits (omega (arith, total_size)))
 
-    pub sum_held : (to_z w64 (of_z w64 total) ≡ sum +ℤ power *ℤ e) × (nat_abs (to_z w64 (of_z w64 total)) ≤ nat_abs sum + 2 ^ 37)
+    sum_held : (to_z w64 (of_z w64 total) ≡ sum +ℤ power *ℤ e) × (nat_abs (to_z w64 (of_z w64 total)) ≤ nat_abs sum + 2 ^ 37)
     sum_held = let q = to_z-of_z sum_fits ∙ total_is in (q, rw q total_size)
 
--- SIXTY TIMES A NUMBER, AS THE MACHINE HOLDS IT
-
-module _ {z : ℤ} (f : SFits w32 z) where
-  abbrev sixty_times : ℤ
-  sixty_times = to_z w64 (of_z w64 (to_z w32 (of_z w32 z))) *ℤ pos 60
-
-  sixty_is : sixty_times ≡ z *ℤ pos 60
-  sixty_is = rw (widened_is f)
-
-  sixty_size : nat_abs (z *ℤ pos 60) ≤ 2 ^ 37
-  sixty_size =
-      let h : nat_abs z ≤ 2 ^ 31 = omega (arith, abs_mag z, f.sfits) in
-      let g : nat_abs (pos 60) ≤ 60 = omega arith in
-      omega (arith, product_within z (pos 60) h g)
-
-  pub sixty_fits : SFits w64 sixty_times
-  sixty_fits = rw sixty_is (wide_fits (omega (arith, sixty_size)))
-
-  pub sixty_held : (to_z w64 (of_z w64 sixty_times) ≡ z *ℤ pos 60) × (nat_abs (to_z w64 (of_z w64 sixty_times)) ≤ 2 ^ 37)
-  sixty_held = let q = to_z-of_z sixty_fits ∙ sixty_is in (q, rw q sixty_size)
+    -- the same of numbers that are equal to these
+    pub sum_of : {p q : ℤ} → p ≡ power → q ≡ e
+        → (to_z w64 (of_z w64 (to_z w64 (of_z w64 sum) +ℤ to_z w64 (of_z w64 (product p q)))) ≡ sum +ℤ power *ℤ e)
+        × (nat_abs (to_z w64 (of_z w64 (to_z w64 (of_z w64 sum) +ℤ to_z w64 (of_z w64 (product p q))))) ≤ nat_abs sum + 2 ^ 37)
+    sum_of i j = rw (i, j) sum_held

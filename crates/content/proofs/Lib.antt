@@ -2,8 +2,8 @@ pub mod HeldSigns
 pub mod Integers
 pub mod Listing
 pub mod Naming
-pub mod PartLaws
 pub mod SlotLaws
 pub mod SumLaws
 pub mod TermLaws
 pub mod TotalLaws
+pub mod Turns

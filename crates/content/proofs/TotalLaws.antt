@@ -18,8 +18,9 @@ use Rattle.label.specs.Limits.{most_terms}
 use Rattle.symbols.specs.Slots.{prime_at}
 use Rattle.symbols.specs.Views.{symbol_in}
 use Rattle.symbols.specs.declared.SymbolAt.{SymbolAt}
-use Rattle.descent.specs.Terms.{Lent}
-use Rattle.content.specs.Views.{symbol_at, term_in, terms_in, scale_in}
+use Rattle.descent.specs.declared.terms.Terms.{Terms}
+use Rattle.descent.specs.Terms.{term_at}
+use Rattle.content.specs.Views.{noted_symbol, symbol_at, term_in, terms_in, scale_in}
 use Rattle.content.specs.Sums.{SumsWithin, Summable, Added, zero_sums}
 use Rattle.content.proofs.Integers.{wide_fits}
 use Rattle.content.proofs.Listing.{listed}
@@ -35,22 +36,22 @@ pub no_totals : (f : ℕ → Symbol → ℤ) (xs : List ℤ) → Totals f [] xs 
 unfolding total
 no_totals f xs = record { room = refl; sums = λ b h. sym (+ℤ_idr (get_or xs b (pos 0))) }
 
-module _ (s : List ℕ) (t : Lent) (x : List ℕ) (i : ℕ) (y : SymbolAt) (told : symbol_in s y ≡ symbol_at s x i) (e : Exponent)
-    (same : e.0 ≡ get_or t.exponents i (pos 0)) where
-  pub one_total : {f : ℕ → Symbol → ℤ} {xs ys zs : List ℤ} → Totals f (terms_in s t x i) xs ys
-      → Added (λ b. f b (symbol_in s y)) e ys zs → Totals f (terms_in s t x (i + 1)) xs zs
-  one_total {f} {xs} {ys} v a = record {
-    room = a.room ∙ v.room;
-    sums = λ b l.
-        let z = f b (symbol_at s x i) *ℤ get_or t.exponents i (pos 0) in
-        a.added b (omega (arith, v.room))
-        ∙ ap (λ (w : Symbol). get_or ys b (pos 0) +ℤ f b w *ℤ e.0) told
-        ∙ ap (λ (w : ℤ). get_or ys b (pos 0) +ℤ f b (symbol_at s x i) *ℤ w) same
-        ∙ ap (λ (w : ℤ). w +ℤ z) (v.sums b l)
-        ∙ +ℤ_assoc (get_or xs b (pos 0)) (total (f b) (terms_in s t x i)).0 z
-        ∙ ap (λ (w : ℤ). get_or xs b (pos 0) +ℤ w) (sym (total_more (f b) (terms_in s t x i) (term_in s t x i)))
-        ∙ ap (λ (us : List spec.Term). get_or xs b (pos 0) +ℤ (total (f b) us).0) (sym (terms_more s t x i));
-  }
+-- the terms with one more, term i, which has the symbol y and the exponent e
+pub one_total : {f : ℕ → Symbol → ℤ} {xs ys zs : List ℤ} {y : SymbolAt} {e : Exponent} (s : List ℕ) (t : Terms) (x : List SymbolAt) (i : ℕ)
+    → y ≡ noted_symbol x i → e ≡ (term_at t i).exponent → Totals f (terms_in s t x i) xs ys → Added (λ b. f b (symbol_in s y)) e ys zs
+    → Totals f (terms_in s t x (i + 1)) xs zs
+one_total {f} {xs} {ys} {zs} {y} {e} s t x i told same v a = record {
+  room = a.room ∙ v.room;
+  sums = λ b l.
+      let z = f b (symbol_at s x i) *ℤ (term_at t i).exponent.0 in
+      a.added b (omega (arith, v.room))
+      ∙ ap (λ (w : SymbolAt). get_or ys b (pos 0) +ℤ f b (symbol_in s w) *ℤ e.0) told
+      ∙ ap (λ (w : Exponent). get_or ys b (pos 0) +ℤ f b (symbol_at s x i) *ℤ w.0) same
+      ∙ ap (λ (w : ℤ). w +ℤ z) (v.sums b l)
+      ∙ +ℤ_assoc (get_or xs b (pos 0)) (total (f b) (terms_in s t x i)).0 z
+      ∙ ap (λ (w : ℤ). get_or xs b (pos 0) +ℤ w) (sym (total_more (f b) (terms_in s t x i) (term_in s t x i)))
+      ∙ ap (λ (us : List spec.Term). get_or xs b (pos 0) +ℤ (total (f b) us).0) (sym (terms_more s t x i));
+}
 
 -- WHERE THE SUMS START
 

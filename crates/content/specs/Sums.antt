@@ -2,17 +2,20 @@
 use Rattle.std.specs.Prelude.{ℕ, ◌+◌, ◌<◌, ◌≤◌, ◌^◌, ◌≡◌, List, ℤ, pos, nat_abs, ◌+ℤ◌, ◌*ℤ◌, length, get_or, replicate}
 use Rattle.label.specs.declared.Exponent.{Exponent}
 use Rattle.label.specs.Units.{base_count}
+use Rattle.content.specs.declared.sums.Sums.{Sums}
 
 -- a reading has a sum for each base and for each of 2, 3, 5 and 487
 abbrev pub prime_count : ℕ
 prime_count = 4
 
-abbrev pub sum_count : ℕ
-sum_count = base_count + prime_count
-
 -- n sums of nothing
 abbrev pub zero_sums : ℕ → List ℤ
 zero_sums n = replicate n (pos 0)
+
+-- the sums of a reading are of nothing
+pub record NoSums (zs : Sums) : Type 0 where
+  pub bases : zs.bases ≡ zero_sums base_count
+  pub primes : zs.primes ≡ zero_sums prime_count
 
 -- every sum is at most m, up or down
 pub record SumsWithin (m : ℕ) (xs : List ℤ) : Type 0 where

@@ -1,49 +1,56 @@
--- What the lent arrays hold of the terms of a label.
-use Rattle.std.specs.Prelude.{ℕ, zero, suc, ◌+◌, ◌*◌, ◌-◌, List, [], ◌∷◌, ◌++◌, ℤ, pos, get_or}
-use Rattle.std.proofs.Math.Option.{Option}
-use Rattle.label.specs.Limits.{most_terms}
-use Rattle.label.specs.Ranges.{between}
-use Rattle.label.specs.Symbols.{Symbol, known, unknown}
-use Rattle.label.specs.Reading.{Term, exponent, Scale}
-use Rattle.symbols.specs.Views.{place}
-use Rattle.descent.specs.Terms.{Lent, start_at, end_at}
+-- What the terms and symbols that are lent stand for.
+use Rattle.std.specs.Prelude.{ℕ, zero, suc, ◌-◌, List, [], ◌∷◌, ◌++◌, ℤ, pos, get_or, None}
+use Rattle.label.specs.Symbols.{Symbol}
+use Rattle.label.specs.Reading.{exponent, Scale}
+use Rattle.label.specs.Reading as spec
+use Rattle.symbols.specs.declared.SymbolAt.{SymbolAt}
+use Rattle.symbols.specs.declared.UnitAt.{UnitAt}
+use Rattle.symbols.specs.declared.UnitAt.TheVariants.{Known, Unknown}
+use Rattle.symbols.specs.Views.{symbol_in}
+use Rattle.descent.specs.declared.terms.Terms.{Terms}
+use Rattle.descent.specs.Terms.{term_at}
 
--- a unit by its code: one more than its row, or 0 for an unknown one, which has letters
-unfoldable pub by_code : ℕ → Option ℕ → List ℕ → Symbol
-by_code zero p l = unknown p l
-by_code (suc u) p l = known p u
+-- a symbol before it is noted, and what is read past the last term
+abbrev pub no_symbol : SymbolAt
+no_symbol = record { prefix = None; unit = Unknown (record { start = 0; end = 0 }) }
 
--- what the array of names has of a term, by its number: the code of its prefix, that of its unit, and where its letters start and end
-abbrev pub prefix_at : List ℕ → ℕ → ℕ
-prefix_at x i = get_or x i 0
+-- the symbol that is noted for a term
+abbrev pub noted_symbol : List SymbolAt → ℕ → SymbolAt
+noted_symbol x i = get_or x i no_symbol
 
-abbrev pub unit_in : List ℕ → ℕ → ℕ
-unit_in x i = get_or x (most_terms + i) 0
+-- what is noted of a term, by its number: its unit, and where the letters of an unknown one start and end, 0 for a known one
+abbrev pub unit_in : List SymbolAt → ℕ → UnitAt
+unit_in x i = (noted_symbol x i).unit
 
-abbrev pub letters_at : List ℕ → ℕ → ℕ
-letters_at x i = get_or x (2 * most_terms + i) 0
+abbrev pub first_letter : UnitAt → ℕ
+first_letter (Known u) = 0
+first_letter (Unknown l) = l.start
 
-abbrev pub letters_end : List ℕ → ℕ → ℕ
-letters_end x i = get_or x (3 * most_terms + i) 0
+abbrev pub last_letter : UnitAt → ℕ
+last_letter (Known u) = 0
+last_letter (Unknown l) = l.end
 
-abbrev pub names_size : ℕ
-names_size = 4 * most_terms
+abbrev pub letters_at : List SymbolAt → ℕ → ℕ
+letters_at x i = first_letter (unit_in x i)
 
--- what the spelling of term i of the label s stands for, by the array of names
-unfoldable pub symbol_at : List ℕ → List ℕ → ℕ → Symbol
-symbol_at s x i = by_code (unit_in x i) (place (prefix_at x i)) (between s (letters_at x i) (letters_end x i))
+abbrev pub letters_end : List SymbolAt → ℕ → ℕ
+letters_end x i = last_letter (unit_in x i)
+
+-- what the spelling of term i of the label s stands for, by the symbols
+abbrev pub symbol_at : List ℕ → List SymbolAt → ℕ → Symbol
+symbol_at s x i = symbol_in s (noted_symbol x i)
 
 -- term i of the label s
-abbrev pub term_in : List ℕ → Lent → List ℕ → ℕ → Term
+abbrev pub term_in : List ℕ → Terms → List SymbolAt → ℕ → spec.Term
 term_in s t x i = record {
   symbol = symbol_at s x i;
-  exponent = exponent (get_or t.exponents i (pos 0));
-  start = start_at t.places i;
-  size = end_at t.places i - start_at t.places i;
+  exponent = (term_at t i).exponent;
+  start = (term_at t i).start;
+  size = (term_at t i).end - (term_at t i).start;
 }
 
 -- the first so many terms
-unfoldable pub terms_in : List ℕ → Lent → List ℕ → ℕ → List Term
+unfoldable pub terms_in : List ℕ → Terms → List SymbolAt → ℕ → List spec.Term
 terms_in s t x zero = []
 terms_in s t x (suc i) = terms_in s t x i ++ (term_in s t x i ∷ [])
 

@@ -1,48 +1,31 @@
 -- The fraction that the code computes is the one of the definitions.
-use Prim.Native.Nat.{ℕ, ◌+◌, ◌*◌, ◌%◌, ◌≤◌, ◌<◌, ◌^◌}
+use Prim.Native.Nat.{ℕ, ◌*◌, ◌%◌, ◌≤◌, ◌<◌, ◌^◌}
 use native.Mathlib.Omega.{arith}
-use mathlib.Core.Path.{◌≡◌, ap, ◌∙◌}
+use mathlib.Core.Path.{◌≡◌, refl, ap, ◌∙◌}
 use mathlib.Core.Bool.{Bool, ◌&&◌}
 use lib.Dec.{eqb}
 use lib.IntN.{ℤ, nat_abs, ◌-ℤ◌}
-use mir.Syntax.{w64}
+use mir.Syntax.{w32, w64}
 use mir.Val.{to_z, of_z}
-use mir.Facts.{to_z-of_z}
 use Rattle.label.specs.Reading.{exponent}
 use Rattle.label.specs.Conversion.{whole_number, above, below, all_whole, fraction, fraction_of}
 use Rattle.claims.specs.Parts.{up, down}
 use Rattle.claims.proofs.Exactness.{above_is, below_is}
-use Rattle.content.proofs.Integers.{wide_fits}
-use Rattle.conversion.specs.declared.answer.Conversion.{Conversion}
 use Rattle.conversion.specs.declared.fraction.ScaleRatio.{ScaleRatio}
 use Rattle.conversion.specs.Powers.{Held}
+use Rattle.conversion.proofs.Signs.{bits, narrow_bits, minus_size}
 use Rattle.conversion.specs.Answers.{ratio_in, SmallRatio, Nearly}
-
--- a small number is identified by its bits
-bits : (z : ℤ) → nat_abs z < 2 ^ 31 → to_z w64 (of_z w64 z) ≡ z
-bits z h = to_z-of_z (wide_fits (omega arith))
 
 -- ALL FOUR WHOLE
 
-module _ (r : ScaleRatio) (h : SmallRatio r) {a b c d v w x : Bool} where
-  pub all_whole_is : a ≡ eqb (nat_abs (to_z w64 (of_z w64 r.twos)) % 60) 0 → b ≡ eqb (nat_abs (to_z w64 (of_z w64 r.threes)) % 60) 0
-      → c ≡ eqb (nat_abs (to_z w64 (of_z w64 r.fives)) % 60) 0 → d ≡ eqb (nat_abs (to_z w64 (of_z w64 r.others)) % 60) 0
-      → v ≡ (c && d) → w ≡ (b && v) → x ≡ (a && w) → x ≡ all_whole (ratio_in r)
-  unfolding all_whole
-  all_whole_is e f g i j k l =
-      l
-      ∙ rw (
-        k,
-        j,
-        e,
-        f,
-        g,
-        i,
-        bits r.twos (omega (arith, h.twos)),
-        bits r.threes (omega (arith, h.threes)),
-        bits r.fives (omega (arith, h.fives)),
-        bits r.others (omega (arith, h.others)),
-      )
+abbrev whole_bits : ℤ → Bool
+whole_bits z = eqb (nat_abs (to_z w64 (of_z w64 z)) % 60) 0
+
+pub all_whole_bits : (r : ScaleRatio) → SmallRatio r
+    → all_whole (ratio_in r) ≡ (whole_bits r.twos && (whole_bits r.threes && (whole_bits r.fives && whole_bits r.others)))
+unfolding all_whole
+all_whole_bits r h =
+    rw (bits r.twos (omega (arith, h.twos)), bits r.threes (omega (arith, h.threes)), bits r.fives (omega (arith, h.fives)), bits r.others (omega (arith, h.others)))
 
 -- ONES
 
@@ -67,23 +50,24 @@ side f g law t b e i j k p q r h =
     rw (law 2 t, law 3 b, law 487 e)
     (rw (p, q, r, bits t i, bits b (omega arith), bits e (omega arith)) at h)
 
-module _ (r : ScaleRatio) {a b c e t : ℤ} (i : Ones r.twos a) (j : Ones r.threes b) (k : Ones r.fives c) (l : Ones r.others e)
-    (u : (t ≡ to_z w64 (of_z w64 a) -ℤ to_z w64 (of_z w64 c)) × (nat_abs t ≤ nat_abs (to_z w64 (of_z w64 a)) + nat_abs (to_z w64 (of_z w64 c)))) where
-  rest_is : t ≡ a -ℤ c
-  rest_is = u.0 ∙ rw (bits a (omega (arith, i.small)), bits c (omega (arith, k.small)))
+module _ (r : ScaleRatio) {a b c e : ℤ} (i : Ones r.twos a) (j : Ones r.threes b) (k : Ones r.fives c) (l : Ones r.others e) where
+  abbrev rest : ℤ
+  rest = to_z w64 (of_z w64 a) -ℤ to_z w64 (of_z w64 c)
 
-  rest_small : nat_abs t < 2 ^ 31
-  rest_small = omega (arith, u.1, i.room, k.room)
+  rest_is : rest ≡ a -ℤ c
+  rest_is = rw (bits a (omega (arith, i.small)), bits c (omega (arith, k.small)))
 
-  pub fraction_is : {x y w n : ℕ} {x' y' w' d : ℕ} {z : Conversion}
-      → x ≡ up (to_z w64 (of_z w64 t)) → y ≡ up (to_z w64 (of_z w64 b)) → w ≡ up (to_z w64 (of_z w64 e)) → Held (2 ^ x * 3 ^ y * 487 ^ w) n
-      → x' ≡ down (to_z w64 (of_z w64 t)) → y' ≡ down (to_z w64 (of_z w64 b)) → w' ≡ down (to_z w64 (of_z w64 e)) → Held (2 ^ x' * 3 ^ y' * 487 ^ w') d
-      → (z.number ≡ 0) × ((z.numerator ≡ n) × ((z.denominator ≡ d) × (z.k.0 ≡ to_z w64 (of_z w64 c))))
-      → Nearly (fraction_of (ratio_in r)) z
+  rest_small : nat_abs rest < 2 ^ 31
+  rest_small = omega (arith, minus_size (to_z w64 (of_z w64 a)) (to_z w64 (of_z w64 c)), i.room, k.room)
+
+  pub fraction_is : {x y w n : ℕ} {x' y' w' d : ℕ}
+      → x ≡ up (to_z w64 (of_z w64 rest)) → y ≡ up (to_z w64 (of_z w64 b)) → w ≡ up (to_z w64 (of_z w64 e)) → Held (2 ^ x * 3 ^ y * 487 ^ w) n
+      → x' ≡ down (to_z w64 (of_z w64 rest)) → y' ≡ down (to_z w64 (of_z w64 b)) → w' ≡ down (to_z w64 (of_z w64 e)) → Held (2 ^ x' * 3 ^ y' * 487 ^ w') d
+      → Nearly (fraction_of (ratio_in r)) (record { numerator = n; denominator = d; k = record { 0 = to_z w32 (of_z w32 (to_z w64 (of_z w64 c))) } })
   unfolding fraction_of fraction
-  fraction_is p q o h p' q' o' h' g = record {
-    number = g.0;
-    numerator = rw (g.1.0, ← i.is, ← j.is, ← k.is, ← l.is, ← rest_is) (side up above above_is t b e rest_small j.small l.small p q o h);
-    denominator = rw (g.1.1.0, ← i.is, ← j.is, ← k.is, ← l.is, ← rest_is) (side down below below_is t b e rest_small j.small l.small p' q' o' h');
-    k = λ m. record { 0 = (g.1.1.1 ∙ bits c (omega (arith, k.small)) ∙ k.is) m };
+  fraction_is p q o h p' q' o' h' = record {
+    number = refl;
+    numerator = rw (← i.is, ← j.is, ← k.is, ← l.is, ← rest_is) (side up above above_is rest b e rest_small j.small l.small p q o h);
+    denominator = rw (← i.is, ← j.is, ← k.is, ← l.is, ← rest_is) (side down below below_is rest b e rest_small j.small l.small p' q' o' h');
+    k = λ m. record { 0 = (narrow_bits c (omega (arith, k.small)) ∙ k.is) m };
   }

@@ -1,18 +1,15 @@
 -- Powers, computed as far as the largest numerator or denominator.
-use Prim.Native.Nat.{ℕ, suc, ◌*◌, ◌-◌, ◌≤◌, ◌<◌, ◌^◌}
+use Prim.Native.Nat.{ℕ, suc, ◌*◌, ◌≤◌, ◌<◌, ◌^◌}
 use native.Mathlib.Omega.{arith}
 use native.Mathlib.Decide.{dec_lt}
 use native.Mathlib.Nat.{mul-le-mul, mul_assoc, one-mul, mul-one, pow-zero, pow-succ', one-le-pow, le-mul_of_pos_right}
-use mathlib.Core.Path.{◌≡◌, refl, sym, ap, ◌∙◌}
+use mathlib.Core.Path.{◌≡◌, sym, ap, ◌∙◌}
 use Rattle.conversion.specs.Powers.{Held}
 
 -- the product so far, times the power that is left, is the product
 pub record Raising (start prime exponent value left : ℕ) : Type 0 where
   pub total : value * prime ^ left ≡ start * prime ^ exponent
   pub size : value ≤ 487 * 2 ^ 53
-
-pub raising₀ : {start prime exponent : ℕ} → start ≤ 487 * 2 ^ 53 → Raising start prime exponent start exponent
-raising₀ h = record { total = refl; size = h }
 
 module _ {start prime exponent value left : ℕ} (r : Raising start prime exponent value left) where
   -- a product above the largest number stays above it
@@ -26,11 +23,9 @@ module _ {start prime exponent value left : ℕ} (r : Raising start prime expone
   pub raising_room : value ≤ 2 ^ 53 → prime ≤ 487 → value * prime ≤ 2 ^ 53 * 487
   raising_room h g = mul-le-mul h g
 
-  pub raising_more : value ≤ 2 ^ 53 → prime ≤ 487 → 0 < left → Raising start prime exponent (value * prime) (left - 1)
-  raising_more h g l = record {
-    total =
-        let e : left ≡ suc (left - 1) = omega arith in
-        mul_assoc value prime (prime ^ (left - 1)) ∙ ap (λ (x : ℕ). value * x) (sym (pow-succ' prime (left - 1)) ∙ ap (λ (x : ℕ). prime ^ x) (sym e)) ∙ r.total;
+  pub raising_more : {rest : ℕ} → value ≤ 2 ^ 53 → prime ≤ 487 → left ≡ suc rest → Raising start prime exponent (value * prime) rest
+  raising_more {rest} h g e = record {
+    total = mul_assoc value prime (prime ^ rest) ∙ ap (λ (x : ℕ). value * x) (sym (pow-succ' prime rest) ∙ ap (λ (x : ℕ). prime ^ x) (sym e)) ∙ r.total;
     size = omega (arith, raising_room h g);
   }
 

@@ -1,39 +1,47 @@
 -- What the functions that convert answer.
-use Rattle.std.specs.Prelude.{ℕ, ◌<◌, ◌^◌, ◌≡◌, List, map, ℤ, pos, nat_abs, length, get_or}
+use Rattle.std.specs.Prelude.{ℕ, ◌<◌, ◌^◌, ◌≡◌, List, map, ℤ, pos, nat_abs, get_or, Result, Ok, Err}
+use Rattle.label.specs.declared.Refusal.{Refusal}
+use Rattle.label.specs.Refusals.{number_of}
 use Rattle.label.specs.Reading.{exponent, Scale, Reading, reading}
 use Rattle.label.specs.Conversion as spec
-use Rattle.label.specs.Units.{base_count}
 use Rattle.content.specs.Views.{scale_in}
+use Rattle.content.specs.declared.sums.Sums.{Sums}
 use Rattle.content.specs.Sums.{prime_count}
 use Rattle.reading.specs.declared.read.Answer.{Answer}
 use Rattle.conversion.specs.declared.answer.Conversion.{Conversion}
 use Rattle.conversion.specs.declared.fraction.ScaleRatio.{ScaleRatio}
 use Rattle.conversion.specs.Powers.{Held}
 
-abbrev pub conversion_in : Conversion → spec.Conversion
-conversion_in r = record { number = r.number; numerator = r.numerator; denominator = r.denominator; k = r.k }
+abbrev pub conversion_of : Conversion → spec.Conversion
+conversion_of x = record { number = 0; numerator = x.numerator; denominator = x.denominator; k = x.k }
+
+-- "A refused conversion is 0/1, k = 0."
+abbrev pub conversion_in : Result Conversion Refusal → spec.Conversion
+conversion_in (Ok x) = conversion_of x
+conversion_in (Err e) = record { number = number_of e; numerator = 0; denominator = 1; k = record { 0 = pos 0 } }
 
 -- SUMS
 
 -- the exponents of the bases and of 2, 3, 5 and 487 in a reading
-pub record Sums (ds cs : List ℤ) (r : Reading) : Type 0 where
-  pub dimensions : map exponent ds ≡ r.dimensions
-  pub scale : scale_in cs ≡ r.scale
+pub record SumsOf (zs : Sums) (r : Reading) : Type 0 where
+  pub dimensions : map exponent zs.bases ≡ r.dimensions
+  pub scale : scale_in zs.primes ≡ r.scale
 
 -- four exponents, each small enough that a difference fits the machine
 pub record LimitedScale (cs : List ℤ) : Type 0 where
   pub small : (i : ℕ) → i < prime_count → nat_abs (get_or cs i (pos 0)) < 2 ^ 28
 
-pub record Summed (ds cs : List ℤ) : Type 0 where
-  pub dimensions : length ds ≡ base_count
-  pub scale : LimitedScale cs
+-- the sums of an accepted reading, and whether all units are known
+pub record SummedReading (n : ℕ) (s : List ℕ) (zs : Sums) (a : Answer) : Type 0 where
+  pub number : (reading n s).number ≡ 0
+  pub known : a.verdicts.known ≡ (reading n s).known
+  pub sums : SumsOf zs (reading n s)
+  pub scale : LimitedScale zs.primes
 
--- the number, and where it is 0, the sums and whether all units are known
-pub record ReadSums (n : ℕ) (s : List ℕ) (ds cs : List ℤ) (r : Answer) : Type 0 where
-  pub number : r.number ≡ (reading n s).number
-  pub known : r.number ≡ 0 → r.known ≡ (reading n s).known
-  pub sums : r.number ≡ 0 → Sums ds cs (reading n s)
-  pub summed : r.number ≡ 0 → Summed ds cs
+-- the sums, or the number of the refusal
+abbrev pub ReadSums : ℕ → List ℕ → Result (Answer × Sums) Refusal → Type 0
+ReadSums n s (Ok p) = SummedReading n s p.1 p.0
+ReadSums n s (Err e) = number_of e ≡ (reading n s).number
 
 -- SCALES
 
@@ -50,7 +58,7 @@ pub record SmallRatio (r : ScaleRatio) : Type 0 where
 
 -- r is x, but a numerator or denominator above 2 to the 53 is some number above it
 pub record Nearly (x : spec.Conversion) (r : Conversion) : Type 0 where
-  pub number : r.number ≡ x.number
+  pub number : 0 ≡ x.number
   pub numerator : Held x.numerator r.numerator
   pub denominator : Held x.denominator r.denominator
   pub k : r.k ≡ x.k

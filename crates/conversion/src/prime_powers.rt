@@ -11,13 +11,11 @@ fn raised(start: u64, prime: u64, exponent: u64) -> u64
     ensures { Held (start * prime ^ exponent) result }
 {
     let mut value = start;
-    let mut left = exponent;
-    while 0 < left {
+    for _turn in 0..exponent {
         if LARGEST < value {
             return value;
         }
-        value = value * prime;
-        left -= 1;
+        value *= prime;
     }
     value
 }

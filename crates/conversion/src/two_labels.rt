@@ -1,65 +1,50 @@
 // The exponents of two labels: those of the bases compared, and those of 2, 3, 5 and 487 in first over second.
-ghost use Rattle.std.specs.Prelude.{◌≡◌, map, length, take, drop};
+ghost use Rattle.std.specs.Prelude.{◌≡◌, map};
 ghost use Rattle.label.specs.Reading.{exponent};
 ghost use Rattle.label.specs.Conversion.{over, same_exponents};
-ghost use Rattle.label.specs.Units.{base_count};
-ghost use Rattle.content.specs.Sums.{zero_sums, sum_count};
 ghost use Rattle.content.specs.Views.{scale_in};
 ghost use Rattle.conversion.specs.Answers.{LimitedScale, ReadSums, ratio_in, SmallRatio};
 
-use crate::exponents::difference;
 use crate::fraction::ScaleRatio;
-use content::named::NAME_PLACES;
-use content::sums::{BASES, SUMS};
-use descent::terms::PLACES;
-use label::MOST_TERMS;
-use reading::read::{Answer, read};
+use content::sums::Sums;
+use label::Refusal;
+use reading::read::{Answer, Content, read};
 
-// Where the sums have the exponents of 2, 3, 5 and 487.
-const TWOS: usize = BASES;
+// Where the exponents of 2, 3, 5 and 487 are among those of the primes.
+const TWOS: usize = 0;
 
-const THREES: usize = TWOS + 1;
+const THREES: usize = 1;
 
-const FIVES: usize = THREES + 1;
+const FIVES: usize = 2;
 
-const OTHERS: usize = FIVES + 1;
+const OTHERS: usize = 3;
 
-// What reading the text `s` in notation `n` answers. Where it is no refusal, the exponent of each base, by its number, and then those of
-// 2, 3, 5 and 487 come into the lent sums.
-pub fn read_sums(n: u32, s: &[u8], sums: &mut [i64; SUMS]) -> Answer
-    requires { sums.old ≡ zero_sums sum_count }
-    ensures { ReadSums n s.now (take base_count sums.new) (drop base_count sums.new) result }
+// What reading the text `s` in notation `n` answers, and the exponent of each base and of 2, 3, 5 and 487, or the refusal. The rest of the
+// content goes with this call, so that one content at a time takes room.
+pub fn read_sums(n: u32, s: &[u8]) -> Result<(Answer, Sums), Refusal>
+    ensures { ReadSums n s.now result }
 {
-    let mut places: [usize; PLACES] = [0; PLACES];
-    let mut exponents: [i32; MOST_TERMS] = [0; MOST_TERMS];
-    let mut names: [u8; NAME_PLACES] = [0; NAME_PLACES];
-    read(n, s, &mut places, &mut exponents, &mut names, sums)
+    let mut content = Content::none();
+    let a = read(n, s, &mut content)?;
+    Ok((a, content.sums))
 }
 
 // Whether every base has the same exponent in both.
-pub fn same_bases(first: &[i64; SUMS], second: &[i64; SUMS]) -> bool
-    requires { (length (take base_count first.now) ≡ base_count) × (length (take base_count second.now) ≡ base_count) }
-    ensures { result ≡ same_exponents (map exponent (take base_count first.now)) (map exponent (take base_count second.now)) }
+pub fn same_bases(first: &Sums, second: &Sums) -> bool
+    ensures { result ≡ same_exponents (map exponent first.now.bases) (map exponent second.now.bases) }
 {
-    let mut i = 0;
-    while i < BASES {
-        if first[i] != second[i] {
-            return false;
-        }
-        i += 1;
-    }
-    true
+    first.bases == second.bases
 }
 
 // The exponents of 2, 3, 5 and 487 in first over second.
-pub fn first_over_second(first: &[i64; SUMS], second: &[i64; SUMS]) -> ScaleRatio
-    requires { LimitedScale (drop base_count first.now) × LimitedScale (drop base_count second.now) }
-    ensures { (ratio_in result ≡ over (scale_in (drop base_count first.now)) (scale_in (drop base_count second.now))) × SmallRatio result }
+pub fn first_over_second(first: &Sums, second: &Sums) -> ScaleRatio
+    requires { LimitedScale first.now.primes × LimitedScale second.now.primes }
+    ensures { (ratio_in result ≡ over (scale_in first.now.primes) (scale_in second.now.primes)) × SmallRatio result }
 {
     ScaleRatio {
-        twos: difference(first[TWOS], second[TWOS]),
-        threes: difference(first[THREES], second[THREES]),
-        fives: difference(first[FIVES], second[FIVES]),
-        others: difference(first[OTHERS], second[OTHERS]),
+        twos: first.primes[TWOS] - second.primes[TWOS],
+        threes: first.primes[THREES] - second.primes[THREES],
+        fives: first.primes[FIVES] - second.primes[FIVES],
+        others: first.primes[OTHERS] - second.primes[OTHERS],
     }
 }

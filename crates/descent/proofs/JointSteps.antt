@@ -5,14 +5,13 @@ use mathlib.Core.Path.{◌≡◌, refl, sym, ◌∙◌}
 use mathlib.Core.Bool.{Bool, true, false, ◌&&◌, not}
 use mathlib.Core.List.{List}
 use mathlib.Core.Option.{none, some}
+use Rattle.std.specs.Prelude.{Option, Some, None}
 use lib.Dec.{eqb}
 use lib.ListN.{length, drop, get_or}
-use borrow.Author.Tests.{not-true, not-false}
 use Rattle.label.specs.declared.Rules.{Rules}
 use Rattle.label.specs.Bytes.{space, slash}
 use Rattle.label.specs.Choice.{pick}
 use Rattle.label.specs.Parse.{stop, times, padded, spaced, joint_at, joint, leading_at, leading}
-use Rattle.label.proofs.Basics.{false_true}
 use Rattle.label.proofs.Between.{here, beyond}
 use Rattle.scan.specs.Runs.{Run, is_space}
 use Rattle.tokens.proofs.Readers.{by_byte}
@@ -30,42 +29,39 @@ module _ {r : Rules} {s : List ℕ} {at : ℕ} where
 
 -- SPACES
 
-abbrev no_joint : ℕ → JointAt
-no_joint at = record { found = false; over = false; next = at }
-
 spaced_is : (r : Rules) (s : List ℕ) (at : ℕ) → spaced r (drop at s) ≡ pick (eqb (get_or s at 0) space && r.space) (times (padded r (drop (at + 1) s))) stop
 unfolding spaced
 spaced_is r s at = by_byte (spaced r) (λ c w u. pick (eqb c space && r.space) (times (padded r u)) stop) (λ c u. refl) refl s at
 
-module _ {r : Rules} {s : List ℕ} {at c : ℕ} {x : Bool} (h : c ≡ get_or s at 0) (e : x ≡ (eqb c space && r.space)) where
-  pub spaces_join : {p : ℕ} → x ≡ true → Pads r s (at + 1) p → SpacesJoin r s at (record { found = true; over = false; next = p })
-  spaces_join t w = record { tied = record { is = rw (spaced_is r s at, ← h, sym e ∙ t, w.rest); after = λ _. omega (arith, w.from); within = w.within } }
+module _ {r : Rules} {s : List ℕ} {at c : ℕ} (h : c ≡ get_or s at 0) where
+  pub spaces_join : {p : ℕ} → (eqb c space && r.space) ≡ true → Pads r s (at + 1) p → SpacesJoin r s at (Some (record { over = false; next = p }))
+  spaces_join t w = record { tied = record { is = rw (spaced_is r s at, ← h, t, w.rest); after = omega (arith, w.from); within = w.within } }
 
-  pub no_space_joins : x ≡ false → at ≤ length s → SpacesJoin r s at (no_joint at)
-  no_space_joins t l = record { tied = record { is = rw (spaced_is r s at, ← h, sym e ∙ t); after = λ q. absurd (false_true q); within = l } }
+  pub no_space_joins : (eqb c space && r.space) ≡ false → SpacesJoin r s at None
+  no_space_joins t = record { tied = rw (spaced_is r s at, ← h, t) }
 
 -- SEPARATORS AND SLASHES
 
 module _ {r : Rules} {s : List ℕ} {at p : ℕ} (w : Pads r s at p) where
-  pub end_joins_nothing : length s ≤ p → Joins r s at (no_joint at)
+  pub end_joins_nothing : length s ≤ p → Joins r s at None
   unfolding joint joint_at
-  end_joins_nothing h = record { tied = record { is = rw (← w.rest, beyond s p h); after = λ e. absurd (false_true e); within = omega (arith, w.from, w.within) } }
+  end_joins_nothing h = record { tied = rw (← w.rest, beyond s p h) }
 
-  module _ (h : p < length s) {x : Bool} (e : x ≡ separates r (get_or s p 0)) where
-    pub separator_joins : {q : ℕ} → x ≡ true → Pads r s (p + 1) q → Joins r s at (record { found = true; over = false; next = q })
+  module _ (h : p < length s) {c : ℕ} (k : c ≡ get_or s p 0) {x : Bool} (e : x ≡ separates r c) where
+    pub separator_joins : {q : ℕ} → x ≡ true → Pads r s (p + 1) q → Joins r s at (Some (record { over = false; next = q }))
     unfolding joint joint_at
-    separator_joins t v = record { tied = record { is = rw (← w.rest, here s p h, sym e ∙ t, v.rest); after = λ _. omega (arith, w.from, v.from); within = v.within } }
+    separator_joins t v = record { tied = record { is = rw (← w.rest, here s p h, ← k, sym e ∙ t, v.rest); after = omega (arith, w.from, v.from); within = v.within } }
 
-    module _ (t : x ≡ false) {y : Bool} (f : y ≡ (eqb (get_or s p 0) slash && r.each)) where
-      pub slash_joins : {q : ℕ} → y ≡ true → Pads r s (p + 1) q → Joins r s at (record { found = true; over = true; next = q })
+    module _ (t : x ≡ false) where
+      pub slash_joins : {q : ℕ} → (eqb c slash && r.each) ≡ true → Pads r s (p + 1) q → Joins r s at (Some (record { over = true; next = q }))
       unfolding joint joint_at
       slash_joins u v = record {
-        tied = record { is = rw (← w.rest, here s p h, sym e ∙ t, sym f ∙ u, v.rest); after = λ _. omega (arith, w.from, v.from); within = v.within };
+        tied = record { is = rw (← w.rest, here s p h, ← k, sym e ∙ t, u, v.rest); after = omega (arith, w.from, v.from); within = v.within };
       }
 
-      pub spaces_alone_join : {o : JointAt} → y ≡ false → SpacesJoin r s at o → Joins r s at o
+      pub spaces_alone_join : {o : Option JointAt} → (eqb c slash && r.each) ≡ false → SpacesJoin r s at o → Joins r s at o
       unfolding joint joint_at
-      spaces_alone_join u v = record { tied = record { is = rw (← w.rest, here s p h, sym e ∙ t, sym f ∙ u) v.tied.is; after = v.tied.after; within = v.tied.within } }
+      spaces_alone_join u v = record { tied = rw (← w.rest, here s p h, ← k, sym e ∙ t, u) v.tied }
 
 -- THE LEADING SLASH
 
@@ -74,12 +70,12 @@ module _ {r : Rules} {s : List ℕ} {at p : ℕ} (w : Pads r s at p) where
   unfolding leading leading_at
   leading_is = rw (← w.rest) (by_byte (leading_at r) (λ c v u. pick (eqb c slash && r.each) (some (padded r u)) none) (λ c u. refl) refl s p)
 
-  module _ {c : ℕ} {x : Bool} (h : c ≡ get_or s p 0) (e : x ≡ (eqb c slash && r.each)) where
-    pub slash_leads : {q : ℕ} → x ≡ true → Pads r s (p + 1) q → Leads r s at (record { found = true; next = q })
-    slash_leads t v = record { is = rw (leading_is, ← h, sym e ∙ t, v.rest); from = omega (arith, w.from, v.from); stays = λ q. absurd (false_true (sym q)); within = v.within }
+  module _ {c : ℕ} (h : c ≡ get_or s p 0) where
+    pub slash_leads : {q : ℕ} → (eqb c slash && r.each) ≡ true → Pads r s (p + 1) q → Leads r s at (Some q)
+    slash_leads t v = record { leads = record { is = rw (leading_is, ← h, t, v.rest); from = omega (arith, w.from, v.from); within = v.within } }
 
-    pub no_slash_leads : x ≡ false → Leads r s at (record { found = false; next = at })
-    no_slash_leads t = record { is = rw (leading_is, ← h, sym e ∙ t); from = omega arith; stays = λ _. refl; within = omega (arith, w.from, w.within) }
+    pub no_slash_leads : (eqb c slash && r.each) ≡ false → Leads r s at None
+    no_slash_leads t = record { leads = rw (leading_is, ← h, t) }
 
 -- THE LAST SLASH
 
@@ -88,8 +84,8 @@ unfolding slashed
 slashed_is r s at = by_byte (slashed r) (λ c w u. eqb c slash && not r.each) (λ c u. refl) refl s at
 
 module _ {r : Rules} {s : List ℕ} {at : ℕ} {over : Bool} where
-  pub no_slash_allowed : not over ≡ true → Slashes r over s at false
-  no_slash_allowed e = record { is = rw (not-true over e) }
+  pub no_slash_allowed : {x : Bool} → over ≡ false → x ≡ over → Slashes r over s at x
+  no_slash_allowed e q = record { is = rw (q, e) }
 
-  pub slash_allowed : {c : ℕ} {x : Bool} → not over ≡ false → c ≡ get_or s at 0 → x ≡ (eqb c slash && not r.each) → Slashes r over s at x
-  slash_allowed e h q = record { is = rw (not-false over e, slashed_is r s at, ← h) q }
+  pub slash_allowed : {c : ℕ} {x : Bool} → over ≡ true → c ≡ get_or s at 0 → x ≡ (eqb c slash && not r.each) → Slashes r over s at x
+  slash_allowed e h q = record { is = rw (e, slashed_is r s at, ← h) q }

@@ -1,31 +1,35 @@
 -- The whole label: one law for each way through the code.
-use Prim.Native.Nat.{ℕ, zero, suc, ◌≤◌, ◌<◌, ◌+◌, ◌-◌}
+use Prim.Native.Nat.{ℕ, ◌≤◌, ◌<◌, ◌+◌}
 use native.Mathlib.Omega.{arith}
-use mathlib.Core.Path.{◌≡◌, refl, sym, ap, ◌∙◌}
-use mathlib.Core.Bool.{Bool, true, false, ◌&&◌, not}
+use mathlib.Core.Path.{◌≡◌, refl, ap, ◌∙◌}
+use mathlib.Core.Bool.{Bool, true, false, ◌&&◌}
 use mathlib.Core.List.{List, [], ◌∷◌}
-use lib.Dec.{eqb}
+use lib.Dec.{eqb, leb}
+use native.Mathlib.Decide.{dec_le}
+use Rattle.std.specs.Bool.{then_some}
+use Rattle.std.proofs.lemmas.Bool.Decides.{leb_tells, eqb_tells}
 use lib.ListN.{length, drop, get_or}
-use borrow.Author.Tests.{ne_eqb, not-true, not-false}
+use borrow.Author.Tests.{le-leb, lt-leb, ne_eqb}
+use Rattle.std.specs.Prelude.{Option, Some, None}
 use Rattle.label.specs.declared.Rules.{Rules}
 use Rattle.label.specs.declared.WrittenFactor.{WrittenFactor}
 use Rattle.label.specs.declared.WrittenFactor.TheVariants.{Absent}
 use Rattle.label.specs.Bytes.{slash, space, digit}
 use Rattle.label.specs.Choice.{pick}
 use Rattle.label.specs.Lexical.{no_factor, Part, Kind, item, quotient}
-use Rattle.label.specs.Parse.{Found, none, found, factor, Parsed, refused, parsed, ended, one_space, gap, factored, label_by, fuel, read, parse_by}
+use Rattle.label.specs.Parse.{Found, factor, Parsed, refused, parsed, ended, one_space, gap, factored, label_by, fuel, read, parse_by}
 use Rattle.label.specs.Ranges.{factor_in, FactorInside}
 use Rattle.label.proofs.Basics.{false_true}
 use Rattle.label.proofs.Complete.{rank_most}
 use Rattle.label.proofs.Between.{here, beyond}
 use Rattle.scan.specs.Runs.{Run, is_space}
-use Rattle.tokens.specs.declared.factor.FactorAt.{FactorAt}
+use Rattle.tokens.specs.declared.At.{At}
 use Rattle.tokens.specs.Answers.{ReadsFactor}
 use Rattle.tokens.proofs.Readers.{by_byte, byte_found, byte_is}
-use Rattle.descent.specs.declared.whole_label.LabelRead.{LabelRead}
-use Rattle.descent.specs.Terms.{Lent, NoTerms}
+use Rattle.descent.specs.declared.terms.Terms.{Terms}
+use Rattle.descent.specs.Terms.{NoTerms}
 use Rattle.descent.specs.Steps.{Ready, Stepped}
-use Rattle.descent.specs.Labels.{OneSpace, Gaps, no_label, EndsLabel, Tells, ReadsFactored, ReadsLabel}
+use Rattle.descent.specs.Labels.{OneSpace, Gaps, EndsLabel, Tells, ReadsFactored, ReadsLabel}
 use Rattle.descent.proofs.TermSteps.{holds_none}
 
 -- THE GAP AFTER A FACTOR
@@ -60,47 +64,50 @@ module _ {r : Rules} {s : List ℕ} {at : ℕ} where
 
 -- THE END
 
-module _ {s : List ℕ} {f : WrittenFactor} {p : ℕ} where
-  pub text_left : {o : LabelRead} → o ≡ no_label → p ≤ length s → EndsLabel s f p o
+module _ {s : List ℕ} {f : WrittenFactor} where
+  pub nothing_ends : EndsLabel s f None None
   unfolding ended
-  text_left e h = rw e (record { is = λ x ps. go p h x; good = λ y. absurd (false_true y); inside = λ i. tt })
-    where
-      go : (q : ℕ) → q ≤ length s → (x : Found (List Part)) {ps : List Part} → (q ≡ 0 → x ≡ none) → (0 < q → x ≡ found ps (drop (q - 1) s)) → ended (factor_in s f) x ≡ refused
-      go zero l x m n = rw (m refl)
-      go (suc q) l x m n = rw (n (omega arith), here s (suc q - 1) (omega arith))
+  nothing_ends = record { is = λ ps. refl; good = λ y. absurd (false_true y); inside = λ i. tt }
 
-  pub text_ends : length s < p → EndsLabel s f p (record { ok = true; factor = f })
+  pub text_ends : (e : ℕ) → EndsLabel s f (Some e) (then_some (leb (length s) e) f)
   unfolding ended
-  text_ends h = record { is = λ x ps m n. rw (n (omega arith), beyond s (p - 1) (omega arith)); good = λ _. omega arith; inside = λ i. i }
+  text_ends e = go (dec_le (length s) e)
+    where
+      go : Dec (length s ≤ e) → EndsLabel s f (Some e) (then_some (leb (length s) e) f)
+      go (yes h) = rw (le-leb (length s) e h) (record { is = λ ps. rw (beyond s e h); good = λ _. refl; inside = λ i. i })
+      go (no n) = rw (lt-leb (length s) e (omega arith)) (record { is = λ ps. rw (here s e (omega arith)); good = λ y. absurd (false_true y); inside = λ i. tt })
 
 -- A READING THAT ENDS THE LABEL
 
-pub ready_empty : {s : List ℕ} {at : ℕ} {t : Lent} → NoTerms t → at ≤ length s → Ready s at t
-ready_empty w g = record { within = g; few = omega (arith, w.counts); room = w.room }
+pub ready_empty : {s : List ℕ} {at : ℕ} {t : Terms} → NoTerms t → at ≤ length s → Ready s at t
+ready_empty w g = record { within = g; few = omega (arith, w.counts) }
 
 -- from no term on, the terms read are the label's
-tells_ended : (x : Kind) (r : Rules) (b : Bool) (s : List ℕ) (at : ℕ) (t u : Lent) (f : WrittenFactor) (p : ℕ) (o : LabelRead) (y : Parsed)
+tells_ended : (x : Kind) (r : Rules) (b : Bool) (s : List ℕ) (at : ℕ) (t u : Terms) (f : WrittenFactor) (p : Option ℕ) (o : Option WrittenFactor) (y : Parsed)
     → NoTerms t → FactorInside s f → Stepped x r b s at t u p → EndsLabel s f p o → y ≡ ended (factor_in s f) (read r (fuel s) x b (drop at s)) → Tells y s u o
-tells_ended x r b s at t u f p o y w i a v e = record {
-  parts = a.reads.parts;
-  is = e ∙ v.is (read r (fuel s) x b (drop at s)) a.reads.parts (λ q. a.reads.misses q (fuel s) (omega (arith, rank_most x))) (λ q. a.reads.is q (fuel s) (omega (arith, rank_most x)));
-  holds = λ z. a.reads.keeps (v.good z) [] (holds_none w s);
+tells_ended x r b s at t u f None None y w i a v e = e ∙ rw (a.reads.is (fuel s) (omega (arith, rank_most x))) (v.is [])
+tells_ended x r b s at t u f None (Some g) y w i a v e = absurd (false_true (v.good refl))
+tells_ended x r b s at t u f (Some p) None y w i a v e = e ∙ rw (a.reads.is.finds (fuel s) (omega (arith, rank_most x))) (v.is a.reads.is.parts)
+tells_ended x r b s at t u f (Some p) (Some g) y w i a v e = record {
+  parts = a.reads.is.parts;
+  is = e ∙ rw (a.reads.is.finds (fuel s) (omega (arith, rank_most x))) (v.is a.reads.is.parts);
+  holds = a.reads.is.keeps [] (holds_none w s);
   inside = v.inside i;
 }
 
 -- LABELS WITH A FACTOR
 
-module _ {r : Rules} {s : List ℕ} {f : FactorAt} (w : ReadsFactor (factor r (drop 0 s)) s 0 f) where
-  pub no_factor_read : {t : Lent} {o : LabelRead} → o ≡ no_label → not f.ok ≡ true → ReadsFactored r s t o
+module _ {r : Rules} {s : List ℕ} where
+  pub no_factor_read : {t : Terms} → ReadsFactor (factor r (drop 0 s)) s 0 None → ReadsFactored r s t None
   unfolding factored
-  no_factor_read q e = rw q (record { tells = record { parts = []; is = rw (w.is, not-true f.ok e); holds = λ x. absurd (false_true x); inside = tt } })
+  no_factor_read w = record { tells = rw w }
 
-  pub factor_read : {n p : ℕ} {t u : Lent} {o : LabelRead} → not f.ok ≡ false → Gaps r s f.next n → NoTerms t → Stepped quotient r false s n t u p
-      → EndsLabel s f.factor p o → ReadsFactored r s u o
+  pub factor_read : {f : At WrittenFactor} {n : ℕ} {p : Option ℕ} {t u : Terms} {o : Option WrittenFactor} → ReadsFactor (factor r (drop 0 s)) s 0 (Some f) → Gaps r s f.next n → NoTerms t
+      → Stepped quotient r false s n t u p → EndsLabel s f.value p o → ReadsFactored r s u o
   unfolding factored
-  factor_read {n} {p} {t} {u} {o} e g y a v = record {
-    tells = tells_ended quotient r false s n t u f.factor p o _ y w.inside a v
-        (ap (factored (λ u. read r (fuel s) quotient false u) r) w.is ∙ (rw (not-false f.ok e, g.rest)));
+  factor_read {f} {n} {p} {t} {u} {o} w g y a v = record {
+    tells = tells_ended quotient r false s n t u f.value p o _ y w.inside a v
+        (ap (factored (λ u. read r (fuel s) quotient false u) r) w.is ∙ (rw g.rest));
   }
 
 -- ALL LABELS
@@ -132,37 +139,31 @@ module _ (r : Rules) (f g : List ℕ → Found (List Part)) where
   by_rest [] h n e q = absurd (omega arith)
   by_rest (c ∷ u) h n e q = rw (ne_eqb c space n, e, q)
 
--- a digit, where a factor may lead
-digit_factor : (c : ℕ) (f : Bool) {x y : Bool} → x ≡ digit c → y ≡ (x && f) → y ≡ (digit c && f)
-digit_factor c f k d = d ∙ ap (λ (b : Bool). b && f) k
+pub space_refused : (r : Rules) (s : List ℕ) → 0 < length s → get_or s 0 0 ≡ space → parse_by r s ≡ refused
+unfolding parse_by
+space_refused r s h e = by_space r _ _ s h e
 
 module _ {r : Rules} {s : List ℕ} where
-  pub label_empty : {t : Lent} → length s ≡ 0 → NoTerms t → ReadsLabel r s t (record { ok = true; factor = Absent })
+  pub label_empty : {t : Terms} → length s ≡ 0 → NoTerms t → ReadsLabel r s t (Some Absent)
   unfolding parse_by
-  label_empty h w = record { tells = record { parts = []; is = by_nothing r _ _ s h; holds = λ _. holds_none w s; inside = tt } }
+  label_empty h w = record { tells = record { parts = []; is = by_nothing r _ _ s h; holds = holds_none w s; inside = tt } }
 
-  module _ (h : length s ≡ 0 → ⊥) where
-    pub label_from_space : {t : Lent} {o : LabelRead} → get_or s 0 0 ≡ space → o ≡ no_label → ReadsLabel r s t o
-    unfolding parse_by
-    label_from_space e q = rw q (record { tells = record { parts = []; is = by_space r _ _ s (omega arith) e; holds = λ x. absurd (false_true x); inside = tt } })
-
-    module _ (n : get_or s 0 0 ≡ space → ⊥) {x y : Bool} (k : x ≡ digit (get_or s 0 0)) (d : y ≡ (x && r.factor)) where
-      pub label_from_factor : {t : Lent} {o : LabelRead} → y ≡ true → ReadsFactored r s t o → ReadsLabel r s t o
+  module _ (h : 0 < length s) where
+    module _ (n : get_or s 0 0 ≡ space → ⊥) where
+      pub label_from_factor : {t : Terms} {o : Option WrittenFactor} → (digit (get_or s 0 0) && r.factor) ≡ true → ReadsFactored r s t o → ReadsLabel r s t o
       unfolding parse_by
-      label_from_factor e w = record {
-        tells = record {
-          parts = w.tells.parts;
-          is = by_digit r _ _ s (omega arith) n (sym (digit_factor (get_or s 0 0) r.factor k d) ∙ e) ∙ w.tells.is;
-          holds = w.tells.holds;
-          inside = w.tells.inside;
-        };
-      }
+      label_from_factor e w = record { tells = rw (by_digit r (λ u. read r (fuel s) item true u) (λ u. read r (fuel s) quotient false u) s h n e) w.tells }
 
-      module _ (e : y ≡ false) {b : Bool} (q : b ≡ (eqb (get_or s 0 0) slash && r.lead)) where
-        pub label_from_slash : {t u : Lent} {p : ℕ} {o : LabelRead} → b ≡ true → NoTerms t → Stepped item r true s 1 t u p → EndsLabel s Absent p o → ReadsLabel r s u o
+      module _ (e : (digit (get_or s 0 0) && r.factor) ≡ false) where
+        pub label_from_slash : {t u : Terms} {p : Option ℕ} {o : Option WrittenFactor} → (eqb (get_or s 0 0) slash && r.lead) ≡ true → NoTerms t
+            → Stepped item r true s 1 t u p → EndsLabel s Absent p o → ReadsLabel r s u o
         unfolding parse_by
-        label_from_slash {t} {u} {p} {o} z w a v = record { tells = tells_ended item r true s 1 t u Absent p o _ w tt a v (by_slash r _ _ s (omega arith) n (sym (digit_factor (get_or s 0 0) r.factor k d) ∙ e) (sym q ∙ z)) }
+        label_from_slash {t} {u} {p} {o} z w a v = record { tells = tells_ended item r true s 1 t u Absent p o _ w tt a v (by_slash r _ _ s h n e z) }
 
-        pub label_from_product : {t u : Lent} {p : ℕ} {o : LabelRead} → b ≡ false → NoTerms t → Stepped quotient r false s 0 t u p → EndsLabel s Absent p o → ReadsLabel r s u o
+        pub label_from_product : {t u : Terms} {p : Option ℕ} {o : Option WrittenFactor} → (eqb (get_or s 0 0) slash && r.lead) ≡ false → NoTerms t
+            → Stepped quotient r false s 0 t u p → EndsLabel s Absent p o → ReadsLabel r s u o
         unfolding parse_by
-        label_from_product {t} {u} {p} {o} z w a v = record { tells = tells_ended quotient r false s 0 t u Absent p o _ w tt a v (by_rest r _ _ s (omega arith) n (sym (digit_factor (get_or s 0 0) r.factor k d) ∙ e) (sym q ∙ z)) }
+        label_from_product {t} {u} {p} {o} z w a v = record { tells = tells_ended quotient r false s 0 t u Absent p o _ w tt a v (by_rest r _ _ s h n e z) }
+
+-- what tells of a label that is empty or starts with a space
+pub ruleset label_starts = (leb_tells, eqb_tells, label_empty, space_refused)

@@ -1,53 +1,56 @@
-// The terms of a label, in two lent arrays. `places` has the starts of the first MOST_TERMS spellings, from ENDS on their ends, at
-// COUNT how many terms there are in all, and at BROKEN a 1 where an exponent of one breaks its bound. `exponents` has the first MOST_TERMS
-// exponents.
-ghost use Rattle.std.specs.Prelude.{◌≡◌, ◌<◌, ◌+◌, ◌^◌};
-ghost use Rattle.descent.specs.Terms.{lent, Roomy, mark, KeepsTerm, count_in};
+// The terms of a label, as the call that reads lends them.
+ghost use Rattle.std.specs.Prelude.{◌<◌, ◌+◌, ◌^◌};
+ghost use Rattle.descent.specs.Terms.{NoTerms, KeepsTerm, count};
 
 use label::{Exponent, MOST_TERMS};
 
-// Where `places` has the ends, the count and the mark, and how many numbers it has.
-pub const ENDS: usize = MOST_TERMS;
-
-pub const COUNT: usize = ENDS + MOST_TERMS;
-
-pub const BROKEN: usize = COUNT + 1;
-
-pub const PLACES: usize = BROKEN + 1;
-
-// The mark `m`, or 1 where `ok` is false.
-pub fn marked(m: usize, ok: bool) -> usize
-    ensures { result ≡ mark ok m }
-{
-    if ok {
-        return m;
-    }
-    1
+// A term: where its spelling starts and ends, and its exponent.
+#[derive(Clone, Copy)]
+pub struct Term {
+    pub start: usize,
+    pub end: usize,
+    pub exponent: Exponent,
 }
 
-// One term more. `ok` tells whether its exponent keeps its bounds.
-pub fn keep(
-    places: &mut [usize; PLACES],
-    exponents: &mut [i32; MOST_TERMS],
-    start: usize,
-    end: usize,
-    exponent: Exponent,
-    ok: bool,
-)
-    requires roomy { Roomy (lent places.old exponents.old) }
-    requires places_bound { count_in places.old + 1 < 2 ^ 64 }
-    ensures { KeepsTerm
-        (lent places.old exponents.old) start end exponent.0 ok
-        (lent places.new exponents.new) }
-{
-    let n = places[COUNT];
-    places[COUNT] = n + 1;
-    places[BROKEN] = marked(places[BROKEN], ok);
-    if n < MOST_TERMS {
-        let sixtieths = exponent.0;
-        places[n] = start;
-        places[ENDS + n] = end;
-        exponents[n] = sixtieths;
-        return;
+// The first MOST_TERMS terms, how many there are in all, and whether an exponent of one breaks its bound. The memory is fixed, and a term that
+// is not kept still counts and marks: so the count and the mark are beside the terms.
+#[derive(Drop)]
+pub struct Terms {
+    pub items: [Term; MOST_TERMS],
+    pub count: usize,
+    pub broken: bool,
+}
+
+impl Terms {
+    // No term yet.
+    pub fn none() -> Terms
+        ensures { NoTerms result }
+    {
+        let item = Term {
+            start: 0,
+            end: 0,
+            exponent: Exponent(0),
+        };
+        Terms {
+            items: [item; MOST_TERMS],
+            count: 0,
+            broken: false,
+        }
+    }
+
+    // One term more. Its exponent is none where it breaks its bound; then 0 is kept.
+    pub fn keep(&mut self, start: usize, end: usize, exponent: Option<Exponent>)
+        requires { count self.old + 1 < 2 ^ 64 }
+        ensures { KeepsTerm self.old start end exponent self.new }
+    {
+        if self.count < MOST_TERMS {
+            self.items[self.count] = Term {
+                start,
+                end,
+                exponent: exponent.unwrap_or(Exponent(0)),
+            };
+        }
+        self.count += 1;
+        self.broken |= exponent.is_none();
     }
 }

@@ -1,31 +1,20 @@
 // The whole label by a notation's rules, limits not counted.
 ghost use Rattle.std.specs.Prelude.{◌≡◌, ◌≤◌, length};
-ghost use Rattle.descent.specs.Terms.{lent, NoTerms};
-ghost use Rattle.descent.specs.Labels.{OneSpace, Gaps, no_label, EndsLabel, ReadsFactored, ReadsLabel};
+ghost use Rattle.descent.specs.Terms.{NoTerms};
+ghost use Rattle.descent.specs.Labels.{OneSpace, Gaps, EndsLabel, ReadsFactored, ReadsLabel};
 
 use crate::descent::{Sense, read_item, read_product};
-use crate::terms::PLACES;
-use label::{MOST_TERMS, Rules, WrittenFactor};
-use scan::class::{both, byte_at, is_digit};
+use crate::terms::Terms;
+use label::{Rules, WrittenFactor};
+use scan::class::{byte_at, is_digit};
 use scan::run::spaces;
 use tokens::factor::factor_at;
 
-// The factor of a label, or none where `ok` is false. The terms are in the lent arrays.
-#[derive(Clone, Copy)]
-pub struct LabelRead {
-    pub ok: bool,
-    pub factor: WrittenFactor,
-}
-
-// No label.
-pub fn no_label() -> LabelRead
-    ensures { result ≡ no_label }
-{
-    LabelRead {
-        ok: false,
-        factor: WrittenFactor::Absent,
-    }
-}
+// The product of a whole label: its units are not turned over, and it may end with a slash and one unit or group.
+const WHOLE: Sense = Sense {
+    turned: false,
+    over: true,
+};
 
 // The place after one space, if there is one at `at`.
 pub fn one_space(s: &[u8], at: usize) -> usize
@@ -39,6 +28,7 @@ pub fn one_space(s: &[u8], at: usize) -> usize
 }
 
 // The place of the first unit after a factor that ends at `at`.
+#[tactic(auto, using(crate::proofs::LabelSteps::gap_of_spaces, crate::proofs::LabelSteps::gap_of_one_space, crate::proofs::LabelSteps::gap_of_nothing))]
 pub fn gap(r: Rules, s: &[u8], at: usize) -> usize
     requires { at ≤ length s.now }
     ensures { Gaps r s.now at result }
@@ -52,74 +42,45 @@ pub fn gap(r: Rules, s: &[u8], at: usize) -> usize
     at
 }
 
-// What was read up to the label's end, with the factor before it; `p` is one more than the place where it ends, or 0.
-pub fn ended(s: &[u8], f: WrittenFactor, p: usize) -> LabelRead
-    ensures { EndsLabel s.now f p result }
+// The factor before what was read, where that ends the label; `end` is the place after it.
+pub fn ended(s: &[u8], f: WrittenFactor, end: Option<usize>) -> Option<WrittenFactor>
+    ensures { EndsLabel s.now f end result }
 {
-    if p <= s.len() {
-        return no_label();
-    }
-    LabelRead {
-        ok: true,
-        factor: f,
-    }
+    let end = end?;
+    (s.len() <= end).then_some(f)
 }
 
 // A label that starts with a digit, where it may have a factor.
-pub fn factored(
-    r: Rules,
-    s: &[u8],
-    places: &mut [usize; PLACES],
-    exponents: &mut [i32; MOST_TERMS],
-) -> LabelRead
-    requires { NoTerms (lent places.old exponents.old) }
-    ensures { ReadsFactored r s.now (lent places.new exponents.new) result }
+pub fn factored(r: Rules, s: &[u8], terms: &mut Terms) -> Option<WrittenFactor>
+    requires { NoTerms terms.old }
+    ensures { ReadsFactored r s.now terms.new result }
 {
-    let f = factor_at(r, s, 0);
-    if !f.ok {
-        return no_label();
-    }
+    let f = factor_at(r, s, 0)?;
     let at = gap(r, s, f.next);
-    let sense = Sense {
-        turned: false,
-        over: true,
-    };
-    let p = read_product(r, s, at, sense, places, exponents);
-    let written = f.factor;
-    ended(s, written, p)
+    let end = read_product(r, s, at, WHOLE, terms);
+    ended(s, f.value, end)
 }
 
-// The whole label.
-pub fn read_label(
-    r: Rules,
-    s: &[u8],
-    places: &mut [usize; PLACES],
-    exponents: &mut [i32; MOST_TERMS],
-) -> LabelRead
-    requires { NoTerms (lent places.old exponents.old) }
-    ensures { ReadsLabel r s.now (lent places.new exponents.new) result }
+// The factor of the whole label, or none where it is not in the notation. The lent terms are its units.
+#[tactic(auto, using(crate::proofs::LabelSteps::label_starts))]
+pub fn read_label(r: Rules, s: &[u8], terms: &mut Terms) -> Option<WrittenFactor>
+    requires { NoTerms terms.old }
+    ensures { ReadsLabel r s.now terms.new result }
 {
-    if s.len() == 0 {
-        return LabelRead {
-            ok: true,
-            factor: WrittenFactor::Absent,
-        };
+    if s.is_empty() {
+        return Some(WrittenFactor::Absent);
     }
     let c = s[0];
     if c == b' ' {
-        return no_label();
+        return None;
     }
-    if both(is_digit(c), r.factor) {
-        return factored(r, s, places, exponents);
+    if is_digit(c) && r.factor {
+        return factored(r, s, terms);
     }
-    if both(c == b'/', r.lead) {
-        let i = read_item(r, s, 1, true, places, exponents);
-        return ended(s, WrittenFactor::Absent, i);
+    if c == b'/' && r.lead {
+        let end = read_item(r, s, 1, true, terms);
+        return ended(s, WrittenFactor::Absent, end);
     }
-    let sense = Sense {
-        turned: false,
-        over: true,
-    };
-    let q = read_product(r, s, 0, sense, places, exponents);
-    ended(s, WrittenFactor::Absent, q)
+    let end = read_product(r, s, 0, WHOLE, terms);
+    ended(s, WrittenFactor::Absent, end)
 }

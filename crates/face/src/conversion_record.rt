@@ -1,7 +1,7 @@
 // Converting for C programs.
 ghost use Rattle.std.specs.Prelude.{◌≡◌, ◌<◌, ◌^◌};
 ghost use Rattle.label.specs.Conversion.{conversion};
-ghost use Rattle.conversion.specs.Answers.{conversion_in};
+ghost use Rattle.conversion.specs.Answers.{conversion_of};
 ghost use Rattle.record.specs.Record.{written_over};
 ghost use Rattle.face.specs.ConversionRecord.{conversion_record, conversion_after};
 
@@ -12,26 +12,17 @@ use record::field_bytes::put_all;
 // How many bytes the record of a conversion has: four numbers of eight bytes each.
 const CONVERSION_SIZE: usize = 32;
 
-// Writes the record of a conversion over the buffer from its start, as far as it fits.
+// Writes the record of an accepted conversion over the buffer from its start, as far as it fits.
 fn write_conversion(buffer: &mut [u8], x: Conversion)
     requires { (x.numerator < 2 ^ 63) × (x.denominator < 2 ^ 63) }
-    ensures { buffer.new ≡ written_over (conversion_record (conversion_in x)) buffer.old }
+    ensures { buffer.new ≡ written_over (conversion_record (conversion_of x)) buffer.old }
 {
     let k = x.k;
-    let numbers = [
-        x.number as i64,
-        x.numerator as i64,
-        x.denominator as i64,
-        k.0 as i64,
-    ];
+    let numbers = [0, x.numerator as i64, x.denominator as i64, i64::from(k.0)];
     let mut whole = [0; CONVERSION_SIZE];
     put_all(&mut whole, 0, &numbers);
-    if buffer.len() < CONVERSION_SIZE {
-        let room = buffer.len();
-        slices::copy(&whole[..room], buffer);
-        return;
-    }
-    slices::copy(&whole, buffer);
+    let size = buffer.len().min(CONVERSION_SIZE);
+    buffer[..size].copy_from_slice(&whole[..size]);
 }
 
 // Converts from the first label to the second and answers the number of the refusal, or 0 and the conversion's record in the lent buffer.
@@ -47,10 +38,11 @@ pub extern "C" fn thalinguze_convert(
     ensures buffer_after { buffer.new
         ≡ conversion_after (conversion first first_label.now second second_label.now) buffer.old }
 {
-    let x = convert(first, first_label, second, second_label);
-    if x.number != 0 {
-        return x.number as u32;
+    match convert(first, first_label, second, second_label) {
+        Ok(x) => {
+            write_conversion(buffer, x);
+            0
+        }
+        Err(e) => u32::from(e.number()),
     }
-    write_conversion(buffer, x);
-    0
 }

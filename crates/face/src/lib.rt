@@ -12,12 +12,8 @@ ghost use Rattle.record.specs.Record.{buffer_after};
 ghost use Rattle.typing.specs.Typing.{sent, end_reading};
 ghost use Rattle.typing.specs.Layout.{lent_state, lent_after_begin, begin_number, lent_after_part, lent_after_end};
 
-use content::named::NAME_PLACES;
-use content::sums::SUMS;
-use descent::terms::PLACES;
-use label::MOST_TERMS;
-use reading::read::read;
-use record::buffer::write_record;
+use label::number_of_answer;
+use record::read_record::read_record;
 use rewriting::rewrite::{Rewritten, rewrite};
 use typing::lent_state::{begin_lent, end_lent, send_lent};
 use words::speak::speak;
@@ -28,23 +24,7 @@ pub extern "C" fn thalinguze_read(notation: u32, label: &[u8], buffer: &mut [u8]
     ensures value { result ≡ (reading notation label.now).number }
     ensures buffer_after { buffer.new ≡ buffer_after (reading notation label.now) buffer.old }
 {
-    let mut places: [usize; PLACES] = [0; PLACES];
-    let mut exponents: [i32; MOST_TERMS] = [0; MOST_TERMS];
-    let mut names: [u8; NAME_PLACES] = [0; NAME_PLACES];
-    let mut sums: [i64; SUMS] = [0; SUMS];
-    let a = read(
-        notation,
-        label,
-        &mut places,
-        &mut exponents,
-        &mut names,
-        &mut sums,
-    );
-    if a.number != 0 {
-        return a.number as u32;
-    }
-    write_record(buffer, a, &places, &exponents, &names, &sums);
-    0
+    number_of_answer(read_record(notation, label, buffer))
 }
 
 // Rewrites the label of one notation in another and answers the number of the refusal, or 0 and how many bytes the result has. The result is at
@@ -80,7 +60,7 @@ pub extern "C" fn thalinguze_begin(notation: u32, state: &mut [u8]) -> u32
     ensures value { result ≡ begin_number state.old }
     ensures state_after { state.new ≡ lent_after_begin notation state.old }
 {
-    begin_lent(notation, state)
+    number_of_answer(begin_lent(notation, state))
 }
 
 // Takes a part of the label and answers 0. After the label's end nothing changes, and the answer is 16.
@@ -89,7 +69,7 @@ pub extern "C" fn thalinguze_part(state: &mut [u8], part: &[u8]) -> u32
     ensures value { result ≡ (sent (lent_state state.old) part.now).number }
     ensures state_after { state.new ≡ lent_after_part state.old part.now }
 {
-    send_lent(state, part)
+    number_of_answer(send_lent(state, part))
 }
 
 // Ends the label and answers the number of the refusal, or 0 and the reading's record in the lent buffer. The state has ended then.
@@ -99,5 +79,5 @@ pub extern "C" fn thalinguze_end(state: &mut [u8], buffer: &mut [u8]) -> u32
     ensures state_after { state.new ≡ lent_after_end state.old }
     ensures buffer_after { buffer.new ≡ buffer_after (end_reading (lent_state state.old)) buffer.old }
 {
-    end_lent(state, buffer)
+    number_of_answer(end_lent(state, buffer))
 }

@@ -25,3 +25,5 @@ pub mod Ranges
 pub mod Writing
 pub mod Lines
 pub mod Words
+pub mod Refusals
+pub mod Options

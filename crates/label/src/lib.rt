@@ -1,6 +1,9 @@
 // Unit labels. The definitions of specs/ say what a label means; this file has the bounds and the types that they share with the code.
 #![tactic(auto)]
 
+ghost use Rattle.std.specs.Prelude.{◌≡◌};
+ghost use Rattle.label.specs.Refusals.{number_of, number_in};
+
 // The most bytes and the most terms that a label may have (document 01, numbers that bound a label).
 pub const MOST_BYTES: usize = 255;
 
@@ -84,4 +87,50 @@ pub enum WrittenFactor {
     Absent,
     TenTo(SignedDigits),
     Zeros(usize),
+}
+
+// Why a text is refused, or what is asked of it. Each has the number that a caller gets.
+#[derive(Clone, Copy, Debug, PartialEq, Eq)]
+pub enum Refusal {
+    // Reading: no such notation; more bytes than a label has; a byte that no label has; a text outside the grammar; an exponent or a factor
+    // outside its bounds; too many brackets open at once; too many terms.
+    NoNotation = 1,
+    TooLong = 2,
+    StrangeByte = 3,
+    NoLabel = 4,
+    OutOfBounds = 5,
+    TooDeep = 6,
+    TooManyTerms = 7,
+    // Converting: a unit is unknown; the dimensions differ; the factor is no fraction; the fraction or the power of ten is too large.
+    UnknownUnit = 8,
+    OtherDimensions = 9,
+    NoFraction = 10,
+    LargeFraction = 11,
+    // Writing: something has no form in the target; the result is longer than a label; the lent buffer is shorter than the result.
+    NoForm = 12,
+    LongResult = 13,
+    ShortBuffer = 14,
+    // A line without its three tabs, or one that is too long.
+    BadLine = 15,
+    // What is sent of a label after its end.
+    AfterTheEnd = 16,
+}
+
+impl Refusal {
+    // The number that a caller gets.
+    pub fn number(self) -> u8
+        ensures { result ≡ number_of self }
+    {
+        self as u8
+    }
+}
+
+// The number that a caller gets of an answer: that of the refusal, or 0.
+pub fn number_of_answer(answer: Result<(), Refusal>) -> u32
+    ensures { result ≡ number_in answer }
+{
+    match answer {
+        Ok(()) => 0,
+        Err(e) => u32::from(e.number()),
+    }
 }

@@ -3,92 +3,63 @@
 
 ghost use Rattle.std.specs.Prelude.{◌≡◌, length};
 
-use lines::input::{MOST_KEPT, feed, finish};
-use std::io::{Read, Write};
+use lines::input::{Unfinished, feed, finish};
+use std::io::{self, Read, Write};
 
 // How many bytes are read at once, and how many bytes of answers are written at once.
 const BUFFER_SIZE: usize = 65536;
 
-// After a chunk: how many bytes of an unfinished line are kept, and whether the answers could be written.
-#[derive(Clone, Copy)]
-struct ChunkPassed {
-    kept: usize,
-    going: bool,
-}
-
 // Uses a chunk to its end. The answers are written as often as the buffer for them is full, and after the chunk.
 fn pass<W: Write>(
     chunk: &[u8],
-    line: &mut [u8; MOST_KEPT],
-    kept: usize,
+    line: &mut Unfinished,
     out: &mut [u8],
     writer: &mut W,
-) -> ChunkPassed
+) -> io::Result<()>
     requires { length out.old ≡ 65536 }
 {
     let mut used = 0;
-    let mut held = kept;
-    loop {
-        if chunk.len() <= used {
-            break;
-        }
-        let r = feed(&chunk[used..], line, held, out);
-        let written = r.written;
-        if writer.write_all(&out[0..written]).is_err() {
-            return ChunkPassed {
-                kept: 0,
-                going: false,
-            };
-        }
+    // A turn uses as many bytes as `feed` says, so no `for` counts them.
+    while used < chunk.len() {
+        let r = feed(&chunk[used..], line, out);
+        writer.write_all(&out[..r.written])?;
         used += r.used;
-        held = r.kept;
     }
-    ChunkPassed {
-        kept: held,
-        going: true,
-    }
+    Ok(())
 }
 
 // Answers the last line where it has no newline.
-fn end<W: Write>(line: &[u8; MOST_KEPT], kept: usize, out: &mut [u8], writer: &mut W) -> bool {
-    let written = finish(line, kept, out);
-    writer.write_all(&out[0..written]).is_ok()
+fn end<W: Write>(line: &Unfinished, out: &mut [u8], writer: &mut W) -> io::Result<()> {
+    let written = finish(line, out);
+    writer.write_all(&out[..written])
 }
 
-// Reads to the end of the input, and answers whether all could be read and written. The turns are more than a program makes.
+// Reads to the end of the input and writes the answers. The turns are more than a program makes.
 fn answer_all<R: Read, W: Write>(
     reader: &mut R,
     input: &mut [u8],
-    line: &mut [u8; MOST_KEPT],
     out: &mut [u8],
     writer: &mut W,
-) -> bool
+) -> io::Result<()>
     requires { length out.old ≡ 65536 }
 {
-    let mut kept = 0;
+    let mut line = Unfinished::new();
     for _ in 0..u64::MAX {
-        let Ok(n) = reader.read(input) else {
-            return false;
-        };
+        let n = reader.read(input)?;
         if n == 0 {
-            return end(line, kept, out, writer);
+            return end(&line, out, writer);
         }
-        let passed = pass(&input[0..n], line, kept, out, writer);
-        if !passed.going {
-            return false;
-        }
-        kept = passed.kept;
+        pass(&input[..n], &mut line, out, writer)?;
     }
-    false
+    Err(io::Error::other("too many chunks"))
 }
 
 fn main(rt: HostRuntime) {
     let mut input = [0u8; BUFFER_SIZE];
     let mut out = [0u8; BUFFER_SIZE];
-    let mut line = [0u8; MOST_KEPT];
     let mut reader = rt.stdin();
     let mut writer = rt.stdout();
-    if !answer_all(&mut reader, &mut input, &mut line, &mut out, &mut writer) {
+    if answer_all(&mut reader, &mut input, &mut out, &mut writer).is_err() {
         let _ = rt.eprintln("label-lines: input or output failed");
     }
 }

@@ -1,73 +1,50 @@
 -- Bytes of an unfinished line that are kept, and a line's answer with its newline.
-use Prim.Native.Nat.{ℕ, ◌+◌, ◌-◌, ◌≤◌, ◌<◌}
+use Prim.Native.Nat.{ℕ, ◌+◌, ◌-◌, ◌≤◌, ◌<◌, min}
 use native.Mathlib.Omega.{arith}
+use native.Mathlib.Decide.{dec_le}
 use mathlib.Core.Path.{◌≡◌, refl, sym, ap, ◌∙◌}
 use mathlib.Core.List.{List, [], ◌∷◌, ◌++◌}
 use lib.ListN.{length, take, drop, set, length-append, length-drop}
-use lib.Seq.{take_all, take-length, length-take-le, take-append-le, take-append-add, set-append_seam}
-use borrow.Rule.Slice.PartMut.{mid_of, put_mid}
+use lib.Seq.{take_all, length-take-le, take-append-add, set-append_seam}
+use borrow.Rule.Slice.PartMut.{put_mid}
 use borrow.Author.Tests.{le-ltb}
+use Rattle.std.proofs.lemmas.Slice.{take-put_mid}
 use Rattle.label.specs.Bytes.{newline}
 use Rattle.label.specs.Lines.{answer, answers}
 use Rattle.lines.specs.Writing.{Puts, most_answer, AnswersLine}
-use Rattle.lines.specs.Feeding.{most_kept, Keeps}
-use Rattle.lines.proofs.Putting.{over, over_append, tail_put}
+use Rattle.lines.specs.Feeding.{most_kept}
+use Rattle.lines.proofs.Putting.{over, over_append}
 
 -- KEEPING
 
--- the line is too long already
-pub keeps_none : (u line : List ℕ) (kept : ℕ) → length line ≡ most_kept → most_kept ≤ kept → Keeps u line kept line most_kept
-keeps_none u line kept full h = record {
-  within = omega arith;
-  room = refl;
-  bytes_are = sym (ap (λ (x : List ℕ). take most_kept (x ++ u)) (take_all kept line (omega arith)) ∙ take-append-le most_kept line u (omega arith));
-}
+module _ (u line : List ℕ) (kept : ℕ) {from size k : ℕ} {p : List ℕ} (full : length line ≡ most_kept) (begins : from ≡ min kept most_kept)
+    (some : size ≡ min (length u) (most_kept - from)) (same : k ≡ size) (copied : p ≡ take size u) where
+  front : take from line ≡ take kept line
+  front = go (dec_le kept most_kept)
+    where
+      go : Dec (kept ≤ most_kept) → take from line ≡ take kept line
+      go (yes h) = let e : from ≡ kept = omega arith in ap (λ (n : ℕ). take n line) e
+      go (no h) = take_all from line (omega arith) ∙ sym (take_all kept line (omega arith))
 
-module _ (line p t : List ℕ) (kept : ℕ) (full : length line ≡ most_kept) (fits : kept + length t ≤ most_kept)
-    (copied : p ≡ t ++ drop (length t) (mid_of kept (length line - kept) line)) where
-  abbrev line' : List ℕ
-  line' = put_mid kept (length line - kept) line p
+  cut : take size u ≡ take (most_kept - from) u
+  cut = go (dec_le (length u) (most_kept - from))
+    where
+      go : Dec (length u ≤ most_kept - from) → take size u ≡ take (most_kept - from) u
+      go (yes h) = take_all size u (omega arith) ∙ sym (take_all (most_kept - from) u h)
+      go (no h) = let e : size ≡ most_kept - from = omega arith in ap (λ (n : ℕ). take n u) e
 
-  puts : Puts t (mid_of kept (length line - kept) line) p (length t)
-  puts = record { size_is = refl; bytes_are = copied }
+  front_length : length (take from line) ≡ from
+  front_length = length-take-le from line (omega arith)
 
-  front : length (take kept line) ≡ kept
-  front = length-take-le kept line (omega arith)
-
-  kept_bytes : take (kept + length t) line' ≡ take kept line ++ t
-  kept_bytes =
-      ap (take (kept + length t)) (tail_put kept line p t (length t) puts)
-      ∙ ap (λ (n : ℕ). take (n + length t) (take kept line ++ over t (drop kept line))) (sym front)
-      ∙ take-append-add (take kept line) (over t (drop kept line)) (length t)
-      ∙ ap (λ (x : List ℕ). take kept line ++ x) (take-append-le (length t) t (drop (length t) (drop kept line)) (omega arith) ∙ take-length t)
-
-  same_room : length line' ≡ length line
-  same_room =
-      ap length (tail_put kept line p t (length t) puts)
-      ∙ length-append (take kept line) (over t (drop kept line))
-      ∙ omega (arith, front, length-append t (drop (length t) (drop kept line)), length-drop (length t) (drop kept line), length-drop kept line)
-
-  -- all of t is kept
-  pub keeps_all : Keeps t line kept line' (kept + length t)
-  keeps_all = record {
-    within = fits;
-    room = same_room;
-    bytes_are = kept_bytes ∙ sym (take_all most_kept (take kept line ++ t) (omega (arith, length-append (take kept line) t, front)));
-  }
-
-  -- t is as much of u as there is room for
-  pub keeps_some : (u : List ℕ) (n : ℕ) → t ≡ take n u → length t ≡ n → kept + n ≡ most_kept → Keeps u line kept line' most_kept
-  keeps_some u n e l h =
-      let sum : kept + length t ≡ most_kept = omega arith in
-      let place : length (take kept line) + n ≡ most_kept = omega (arith, front) in
-      record {
-        within = omega arith;
-        room = same_room;
-        bytes_are =
-            ap (λ (m : ℕ). take m line') (sym sum) ∙ kept_bytes ∙ ap (λ (x : List ℕ). take kept line ++ x) e
-            ∙ sym (take-append-add (take kept line) u n)
-            ∙ ap (λ (m : ℕ). take m (take kept line ++ u)) place;
-      }
+  -- as much of u as there is room for comes after the bytes that are kept
+  pub bytes_kept : take (from + size) (put_mid from k line p) ≡ take most_kept (take kept line ++ u)
+  bytes_kept =
+      let all : length (take from line) + (most_kept - from) ≡ most_kept = omega (arith, front_length) in
+      take-put_mid from k line p (from + size) (omega (arith, ap length copied, length-take-le size u (omega arith))) (omega arith)
+      ∙ ap (λ (x : List ℕ). take from line ++ x) (copied ∙ cut)
+      ∙ sym (take-append-add (take from line) u (most_kept - from))
+      ∙ ap (λ (n : ℕ). take n (take from line ++ u)) all
+      ∙ ap (λ (x : List ℕ). take most_kept (x ++ u)) front
 
 -- A LINE WITH ITS NEWLINE
 

@@ -1,51 +1,99 @@
 -- Fields and answers of a line, and the output that is due.
 use Prim.Native.Nat.{ℕ, suc, ◌+◌, ◌-◌, ◌≤◌, ◌<◌}
 use native.Mathlib.Omega.{arith}
-use mathlib.Core.Path.{◌≡◌, refl, ap, ◌∙◌}
-use mathlib.Core.Bool.{Bool, true, false, ◌&&◌}
+use mathlib.Core.Path.{◌≡◌, refl, sym, ap, ◌∙◌}
+use mathlib.Core.Bool.{Bool, true, false, ◌&&◌, not, cond}
 use mathlib.Core.List.{List, [], ◌∷◌, ◌++◌, append-nil}
-use lib.Dec.{leb, eqb}
-use lib.ListN.{length, drop, length-drop}
-use lib.Seq.{take_all, drop-drop}
-use borrow.Author.Tests.{le-leb, lt-leb, lt-ltb, le-ltb, eq-eqb, ne_eqb}
-use Rattle.slices.specs.Slices.{index_of, slice}
+use lib.Dec.{leb, ltb, eqb}
+use lib.ListN.{length, take, drop, length-take, length-drop}
+use lib.Seq.{take_all}
+use borrow.Author.Tests.{le-leb, lt-leb, lt-ltb, le-ltb, eq-eqb, ne_eqb, ltb-true, ltb-false}
+use Rattle.std.specs.Prelude.{Option, Some, None}
+use Rattle.std.specs.Option.{is_some}
+use Rattle.std.specs.List.{position, position_or_len}
+use Rattle.slices.specs.Slices.{index_of, index_after}
 use Rattle.label.specs.Bytes.{tab}
-use Rattle.label.specs.Ranges.{between}
-use Rattle.label.specs.Writing.{rewriting}
-use Rattle.label.specs.Lines.{most_line, parts, last_field, fields, notation_named, answer_with, malformed, well_formed, answer_fields, answer}
-use Rattle.lines.specs.Fields.{FieldEnd}
+use Rattle.label.specs.Lines.{most_line, parts, last_field, fields, malformed, well_formed, answer_fields, answer}
+use Rattle.lines.specs.Fields.{Parted, FourFields}
 use Rattle.lines.specs.Writing.{Puts, number_text, most_answer, AnswersLine}
 use Rattle.lines.proofs.Putting.{malformed_is, number_size}
 use Rattle.lines.proofs.Parts.{parts_found, parts_missing}
 
+-- PLACES
+
+place_len : (b : ℕ) (s : List ℕ) → position_or_len (λ (x : ℕ). eqb x b) s ≡ index_of b s
+unfolding index_of index_after
+place_len b [] = refl
+place_len b (c ∷ s) = go (eqb c b) (place_len b s)
+  where
+    go : (t : Bool) → position_or_len (λ (x : ℕ). eqb x b) s ≡ index_of b s → cond (not t) (1 + position_or_len (λ (x : ℕ). eqb x b) s) 0 ≡ index_after t (index_of b s)
+    go true e = refl
+    go false e = omega (arith, e)
+
+index_le : (b : ℕ) (s : List ℕ) → index_of b s ≤ length s
+unfolding index_of index_after
+index_le b [] = omega arith
+index_le b (c ∷ s) = go (eqb c b) (index_le b s)
+  where
+    go : (t : Bool) → index_of b s ≤ length s → index_after t (index_of b s) ≤ length (c ∷ s)
+    go true h = omega arith
+    go false h = omega arith
+
+-- the first place of a byte, where there is one
+pub record Found (b : ℕ) (s : List ℕ) (i : ℕ) : Type 0 where
+  pub within : i < length s
+  pub is : i ≡ index_of b s
+
+module _ (b : ℕ) (s : List ℕ) where
+  abbrev first : ℕ
+  first = position_or_len (λ (x : ℕ). eqb x b) s
+
+  pub place_found : {o : Option ℕ} (i : ℕ) → o ≡ position (λ (x : ℕ). eqb x b) s → o ≡ Some i → Found b s i
+  place_found i e f = go (ltb first (length s)) refl (sym e ∙ f)
+    where
+      go : (t : Bool) → ltb first (length s) ≡ t → cond t (Some first) None ≡ Some i → Found b s i
+      go true h q = let z : first ≡ i = cc in record { within = omega (arith, ltb-true first (length s) h, z); is = sym z ∙ place_len b s }
+      go false h q = absurd cc
+
+  missing_at : ltb first (length s) ≡ false → index_of b s ≡ length s
+  missing_at h = omega (arith, ltb-false first (length s) h, place_len b s, index_le b s)
+
+  pub place_missing : {o : Option ℕ} → o ≡ position (λ (x : ℕ). eqb x b) s → o ≡ None → index_of b s ≡ length s
+  place_missing e f = go (ltb first (length s)) refl (sym e ∙ f)
+    where
+      go : (t : Bool) → ltb first (length s) ≡ t → cond t (Some first) None ≡ None → index_of b s ≡ length s
+      go true h q = absurd cc
+      go false h q = missing_at h
+
+  pub some_place : {o : Option ℕ} {t : Bool} → o ≡ position (λ (x : ℕ). eqb x b) s → t ≡ is_some o → t ≡ true → index_of b s < length s
+  some_place e f h = go (ltb first (length s)) refl (ap is_some (sym e) ∙ sym f ∙ h)
+    where
+      go : (t : Bool) → ltb first (length s) ≡ t → is_some (cond t (Some first) None) ≡ true → index_of b s < length s
+      go true g q = omega (arith, ltb-true first (length s) g, place_len b s)
+      go false g q = absurd cc
+
+  pub no_place : {o : Option ℕ} {t : Bool} → o ≡ position (λ (x : ℕ). eqb x b) s → t ≡ is_some o → t ≡ false → index_of b s ≡ length s
+  no_place e f h = go (ltb first (length s)) refl (ap is_some (sym e) ∙ sym f ∙ h)
+    where
+      go : (t : Bool) → ltb first (length s) ≡ t → is_some (cond t (Some first) None) ≡ false → index_of b s ≡ length s
+      go true g q = absurd cc
+      go false g q = missing_at g
+
 -- FIELDS
 
--- the rest of a line, from a place
-pub rest_of : (s : List ℕ) (from to : ℕ) → length s ≤ to → slice from to s ≡ drop from s
-unfolding slice
-rest_of s from to h = take_all (to - from) (drop from s) (omega (arith, length-drop from s))
+module _ (s : List ℕ) where
+  pub parted : {i : ℕ} → Found tab s i → Parted s (take i s) (take (length s - (i + 1)) (drop (i + 1) s))
+  parted {i} w =
+      let rest = take_all (length s - (i + 1)) (drop (i + 1) s) (omega (arith, length-drop (i + 1) s)) in
+      let e : suc (index_of tab s) ≡ i + 1 = omega (arith, w.is) in
+      record {
+        fields_are = rw (append-nil s, append-nil (drop (suc (index_of tab s)) s), e, ← w.is, ← rest) at (parts_found tab last_field s [] [] (omega (arith, w.within, w.is)));
+        size_is = omega (arith, w.within, length-take i s, ap length rest, length-drop (i + 1) s);
+      }
 
-module _ (s : List ℕ) (from r : ℕ) (begins : from ≤ length s) (is : r ≡ from + index_of tab (slice from (length s) s)) (ends : r ≤ length s) where
-  place : r ≡ from + index_of tab (drop from s)
-  place = is ∙ ap (λ (u : List ℕ). from + index_of tab u) (rest_of s from (length s) (omega arith))
-
-  size : r - from ≡ index_of tab (drop from s)
-  size = omega (arith, place)
-
-  found : r < length s → fields (drop from s) ≡ between s from r ∷ fields (drop (r + 1) s)
-  found h =
-      let e : from + suc (index_of tab (drop from s)) ≡ r + 1 = omega (arith, place) in
-      let p = parts_found tab last_field (drop from s) [] [] (omega (arith, place, length-drop from s)) in
-      rw size ((rw (append-nil (drop from s), append-nil (drop (suc (index_of tab (drop from s))) (drop from s)), drop-drop, e) at p))
-
-  missing : r ≡ length s → fields (drop from s) ≡ between s from r ∷ []
+  pub not_parted : index_of tab s ≡ length s → fields s ≡ s ∷ []
   unfolding parts
-  missing h =
-      let p = parts_missing tab last_field (drop from s) [] [] (omega (arith, place, length-drop from s)) in
-      rw (take_all (r - from) (drop from s) (omega (arith, length-drop from s))) (rw (append-nil (drop from s)) at p)
-
-  pub field_end : FieldEnd s from r
-  field_end = record { forward = omega (arith, place); within = ends; at_tab = found; at_end = missing }
+  not_parted h = rw (append-nil s) at (parts_missing tab last_field s [] [] h)
 
 -- ANSWERS
 
@@ -75,32 +123,32 @@ module _ (s : List ℕ) where
   unfolding answer well_formed
   answer_four h e = rw (le-leb (length s) most_line h, eq-eqb (length (fields s)) 4 e)
 
-  module _ {first : ℕ} (one : FieldEnd s 0 first) where
-    pub one_field : length s ≤ first → answer s ≡ malformed
-    one_field h = answer_count (rw (one.at_end (omega (arith, one.within))))
+  pub one_field : fields s ≡ s ∷ [] → answer s ≡ malformed
+  one_field e = answer_count (rw e)
 
-    module _ {second : ℕ} (more : first < length s) (two : FieldEnd s (first + 1) second) where
-      pub two_fields : length s ≤ second → answer s ≡ malformed
-      two_fields h = answer_count (rw (one.at_tab more, two.at_end (omega (arith, two.within))))
+  module _ {a r : List ℕ} (one : Parted s a r) where
+    pub two_fields : fields r ≡ r ∷ [] → answer s ≡ malformed
+    two_fields e = answer_count (rw (one.fields_are, e))
 
-      module _ {third : ℕ} (more₂ : second < length s) (three : FieldEnd s (second + 1) third) where
-        pub three_fields : length s ≤ third → answer s ≡ malformed
-        three_fields h = answer_count (rw (one.at_tab more, two.at_tab more₂, three.at_end (omega (arith, three.within))))
+    module _ {b q : List ℕ} (two : Parted r b q) where
+      pub three_fields : fields q ≡ q ∷ [] → answer s ≡ malformed
+      three_fields e = answer_count (rw (one.fields_are, two.fields_are, e))
 
-        module _ {fourth : ℕ} (more₃ : third < length s) (four : FieldEnd s (third + 1) fourth) where
-          pub five_fields : fourth < length s → answer s ≡ malformed
-          five_fields h =
-              answer_count
-              (rw (one.at_tab more, two.at_tab more₂, three.at_tab more₃, four.at_tab h)
-              (ne_eqb (suc (suc (suc (suc (length (fields (drop (fourth + 1) s))))))) 4 (λ e. omega (arith, fields_some (drop (fourth + 1) s) []))))
+      module _ {c t : List ℕ} (three : Parted q c t) where
+        pub five_fields : index_of tab t < length t → answer s ≡ malformed
+        five_fields h =
+            let rest = take (length t - (index_of tab t + 1)) (drop (index_of tab t + 1) t) in
+            answer_count
+            (rw (one.fields_are, two.fields_are, three.fields_are, (parted t (record { within = h; is = refl })).fields_are)
+            (ne_eqb (suc (suc (suc (suc (length (fields rest)))))) 4 (λ e. omega (arith, fields_some rest []))))
 
-          pub four_fields : length s ≤ most_line → length s ≤ fourth
-              → answer s ≡ answer_with (between s 0 first) (rewriting (notation_named (between s (first + 1) second)) (between s (second + 1) third) (notation_named (between s (third + 1) (length s))))
-          four_fields h g =
-              let e : fourth ≡ length s = omega (arith, four.within) in
-              let all : fields s ≡ between s 0 first ∷ between s (first + 1) second ∷ between s (second + 1) third ∷ between s (third + 1) (length s) ∷ [] =
-              rw (one.at_tab more, two.at_tab more₂, three.at_tab more₃, four.at_end e, e) in
-              answer_four h (ap length all) ∙ ap answer_fields all
+        pub four_fields : length s ≤ most_line → fields t ≡ t ∷ [] → FourFields s a b c t
+        four_fields h e =
+            let all : fields s ≡ a ∷ b ∷ c ∷ t ∷ [] = rw (one.fields_are, two.fields_are, three.fields_are, e) refl in
+            record {
+              answer_is = answer_four h (ap length all) ∙ ap answer_fields all;
+              short = omega (arith, one.size_is, two.size_is, three.size_is);
+            }
 
 -- A LINE'S ANSWER IN A BUFFER
 

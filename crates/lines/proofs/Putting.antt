@@ -6,7 +6,7 @@ use mathlib.Core.Path.{◌≡◌, refl, sym, ap, ◌∙◌}
 use mathlib.Core.Bool.{Bool, true, false}
 use mathlib.Core.List.{List, [], ◌∷◌, ◌++◌, append_assoc, append-nil}
 use lib.Dec.{ltb}
-use lib.ListN.{length, take, drop, set, length-append, length-drop, take-append-drop, drop_of_length-le}
+use lib.ListN.{length, take, drop, length-append, length-drop, take-append-drop, drop_of_length-le}
 use lib.Seq.{take_all, length-take-le, take-append_seam, drop-append_seam, take-append-le, take-take, drop_at, drop-drop}
 use borrow.Rule.Slice.PartMut.{mid_of, put_mid}
 use borrow.Author.Tests.{lt-ltb, le-ltb}
@@ -29,19 +29,6 @@ puts_within t b c p = omega (arith, p.size_is, ap length p.bytes_are, length-app
 
 -- NUMBERS
 
-three_set : (b : List ℕ) (x y z : ℕ) → 4 ≤ length b → set (set (set b 0 x) 1 y) 2 z ≡ x ∷ y ∷ z ∷ drop 3 b
-three_set [] x y z h = absurd (omega arith)
-three_set (p ∷ []) x y z h = absurd (omega arith)
-three_set (p ∷ q ∷ []) x y z h = absurd (omega arith)
-three_set (p ∷ q ∷ r ∷ b) x y z h = refl
-
-four_set : (b : List ℕ) (x y z w : ℕ) → 4 ≤ length b → set (set (set (set b 0 x) 1 y) 2 z) 3 w ≡ x ∷ y ∷ z ∷ w ∷ drop 4 b
-four_set [] x y z w h = absurd (omega arith)
-four_set (p ∷ []) x y z w h = absurd (omega arith)
-four_set (p ∷ q ∷ []) x y z w h = absurd (omega arith)
-four_set (p ∷ q ∷ r ∷ []) x y z w h = absurd (omega arith)
-four_set (p ∷ q ∷ r ∷ s ∷ b) x y z w h = refl
-
 one_digit_text : (n : ℕ) → n < 10 → number_text n ≡ tab ∷ (digit_zero + n) ∷ tab ∷ []
 unfolding number_text decimal
 one_digit_text n h = rw (lt-ltb n 10 h)
@@ -50,12 +37,13 @@ two_digit_text : (n : ℕ) → 10 ≤ n → number_text n ≡ tab ∷ (digit_zer
 unfolding number_text decimal
 two_digit_text n h = rw (le-ltb n 10 h)
 
-pub one_digit : (n : ℕ) (b : List ℕ) → n < 10 → 4 ≤ length b → Puts (number_text n) b (set (set (set b 0 tab) 1 (digit_zero + n)) 2 tab) 3
-one_digit n b h g = rw (one_digit_text n h) (record { size_is = refl; bytes_are = three_set b tab (digit_zero + n) tab g })
+pub one_digit : (n : ℕ) (b : List ℕ) {c : List ℕ} → n < 10 → c ≡ over (tab ∷ (digit_zero + n % 10) ∷ tab ∷ []) b → Puts (number_text n) b c 3
+one_digit n b h e =
+    let m : n % 10 ≡ n = omega arith in
+    rw (one_digit_text n h) (record { size_is = refl; bytes_are = rw m at e })
 
-pub two_digits : (n : ℕ) (b : List ℕ) → 10 ≤ n → 4 ≤ length b
-    → Puts (number_text n) b (set (set (set (set b 0 tab) 1 (digit_zero + n / 10)) 2 (digit_zero + n % 10)) 3 tab) 4
-two_digits n b h g = rw (two_digit_text n h) (record { size_is = refl; bytes_are = four_set b tab (digit_zero + n / 10) (digit_zero + n % 10) tab g })
+pub two_digits : (n : ℕ) (b : List ℕ) {c : List ℕ} → 10 ≤ n → c ≡ over (tab ∷ (digit_zero + n / 10) ∷ (digit_zero + n % 10) ∷ tab ∷ []) b → Puts (number_text n) b c 4
+two_digits n b h e = rw (two_digit_text n h) (record { size_is = refl; bytes_are = e })
 
 pub number_one_digit : (n : ℕ) → n < 10 → length (number_text n) ≡ 3
 number_one_digit n h = ap length (one_digit_text n h)

@@ -1,3 +1,3 @@
-pub mod Fields
 pub mod Writing
+pub mod Fields
 pub mod Feeding

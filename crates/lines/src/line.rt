@@ -1,12 +1,16 @@
 // The answer to a line.
-ghost use Rattle.std.specs.Prelude.{◌≤◌, ◌≡◌, length};
+ghost use Rattle.std.specs.Prelude.{◌≤◌, ◌≡◌, ◌==◌, [], ◌∷◌, length, IfOk, IfErr};
+ghost use Rattle.std.specs.List.{position};
+ghost use Rattle.label.specs.declared.Refusal.TheVariants.{BadLine};
+ghost use Rattle.label.specs.Lines.{fields};
 ghost use Rattle.label.specs.Limits.{most_bytes};
 ghost use Rattle.label.specs.Writing.{rewriting};
 ghost use Rattle.label.specs.Lines as spec;
-ghost use Rattle.lines.specs.Fields.{FieldEnd};
+ghost use Rattle.lines.specs.Fields.{Parted, FourFields};
 ghost use Rattle.lines.specs.Writing.{most_id, most_answer, Puts, AnswersLine};
 
 use crate::number_text::put_number;
+use label::Refusal;
 use notations::rows::notation_named;
 use rewriting::rewrite::{Rewritten, rewrite};
 
@@ -18,15 +22,54 @@ pub const MOST_ANSWER: usize = 767;
 // How many bytes a 0 between tabs has.
 const ZERO_SIZE: usize = 3;
 
-// The refusal of a line that is too long or does not have three tabs.
-const MALFORMED: u32 = 15;
+// The fields of a line.
+#[derive(Clone, Copy)]
+struct Fields<'a> {
+    id: &'a [u8],
+    source: &'a [u8],
+    text: &'a [u8],
+    target: &'a [u8],
+}
 
-// Where the field that begins at `from` ends: at the next tab or at the line's end.
-fn field_end(line: &[u8], from: usize) -> usize
-    requires { from ≤ length line.now }
-    ensures { FieldEnd line.now from result }
+// The place of the first `byte`.
+pub(crate) fn place_of(s: &[u8], byte: u8) -> Option<usize>
+    ensures { result ≡ position (λ x. x == byte) s.now }
 {
-    slices::find(line, from, line.len(), b'\t')
+    s.iter().position(|x| *x == byte)
+}
+
+// The field at the start of a text that tabs part, and what follows its tab.
+fn split_field(s: &[u8]) -> Result<(&[u8], &[u8]), Refusal>
+    ensures ok { IfOk result (λ p. Parted s.now p.0.now p.1.now) }
+    ensures err { IfErr result (λ r. (r ≡ BadLine) × (fields s.now ≡ s.now ∷ [])) }
+{
+    let Some(end) = place_of(s, b'\t') else {
+        return Err(Refusal::BadLine);
+    };
+    Ok((&s[..end], &s[end + 1..]))
+}
+
+// The four fields of a line that is not too long.
+#[tactic(auto, using(crate::proofs::Lines::answer_long))]
+fn split_line(line: &[u8]) -> Result<Fields<'_>, Refusal>
+    ensures ok { IfOk result (λ f. FourFields line.now f.id.now f.source.now f.text.now f.target.now) }
+    ensures err { IfErr result (λ r. (r ≡ BadLine) × (spec.answer line.now ≡ spec.malformed)) }
+{
+    if MOST_LINE < line.len() {
+        return Err(Refusal::BadLine);
+    }
+    let (id, rest) = split_field(line)?;
+    let (source, rest) = split_field(rest)?;
+    let (text, target) = split_field(rest)?;
+    if place_of(target, b'\t').is_some() {
+        return Err(Refusal::BadLine);
+    }
+    Ok(Fields {
+        id,
+        source,
+        text,
+        target,
+    })
 }
 
 // Rewrites a text into a buffer that has room for every result.
@@ -39,17 +82,18 @@ fn put_result(source: u32, text: &[u8], target: u32, out: &mut [u8]) -> Rewritte
 }
 
 // Puts the answer to the four fields of a line over the start of `out`. A result begins after a 0 between tabs.
-fn put_answer(id: &[u8], source: &[u8], text: &[u8], target: &[u8], out: &mut [u8]) -> usize
-    requires { (length id.now ≤ most_id) × (most_answer ≤ length out.old) }
-    ensures puts { Puts (spec.answer_with id.now (rewriting (spec.notation_named source.now) text.now (spec.notation_named target.now)))
+fn put_answer(f: Fields<'_>, out: &mut [u8]) -> usize
+    requires { (length f.id.now ≤ most_id) × (most_answer ≤ length out.old) }
+    ensures puts { Puts (spec.answer_with f.entry.id.now (rewriting (spec.notation_named f.entry.source.now) f.entry.text.now (spec.notation_named f.entry.target.now)))
         out.old out.new result }
     ensures upper_bound { result ≤ most_answer }
 {
-    let number_at = slices::copy(id, out);
+    let number_at = slices::copy(f.id, out);
     let result_at = number_at + ZERO_SIZE;
-    let from = notation_named(source);
-    let to = notation_named(target);
-    let a = put_result(from, text, to, &mut out[result_at..]);
+    // 0 is no notation, and is refused as such.
+    let from = notation_named(f.source).unwrap_or(0);
+    let to = notation_named(f.target).unwrap_or(0);
+    let a = put_result(from, f.text, to, &mut out[result_at..]);
     let size = put_number(a.number, &mut out[number_at..]);
     number_at + size + a.length as usize
 }
@@ -62,33 +106,8 @@ pub fn answer_line(line: &[u8], out: &mut [u8]) -> usize
     if out.len() < MOST_ANSWER {
         return 0;
     }
-    let end = line.len();
-    if MOST_LINE < end {
-        return put_number(MALFORMED, out);
+    match split_line(line) {
+        Ok(f) => put_answer(f, out),
+        Err(refusal) => put_number(u32::from(refusal.number()), out),
     }
-    let first = field_end(line, 0);
-    if end <= first {
-        return put_number(MALFORMED, out);
-    }
-    let second = field_end(line, first + 1);
-    if end <= second {
-        return put_number(MALFORMED, out);
-    }
-    let third = field_end(line, second + 1);
-    if end <= third {
-        return put_number(MALFORMED, out);
-    }
-    if field_end(line, third + 1) < end {
-        return put_number(MALFORMED, out);
-    }
-    let source = first + 1;
-    let text = second + 1;
-    let target = third + 1;
-    put_answer(
-        &line[0..first],
-        &line[source..second],
-        &line[text..third],
-        &line[target..end],
-        out,
-    )
 }

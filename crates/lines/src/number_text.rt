@@ -7,14 +7,10 @@ pub fn put_number(number: u32, out: &mut [u8]) -> usize
     requires { (number < 100) × (4 ≤ length out.old) }
     ensures { Puts (number_text number) out.old out.new result }
 {
-    out[0] = b'\t';
+    let ones = b'0' + (number % 10) as u8;
     if number < 10 {
-        out[1] = b'0' + number as u8;
-        out[2] = b'\t';
-        return 3;
+        return slices::copy(&[b'\t', ones, b'\t'], out);
     }
-    out[1] = b'0' + (number / 10) as u8;
-    out[2] = b'0' + (number % 10) as u8;
-    out[3] = b'\t';
-    4
+    let tens = b'0' + (number / 10) as u8;
+    slices::copy(&[b'\t', tens, ones, b'\t'], out)
 }

@@ -1,109 +1,80 @@
--- The search of a notation's name: one law for each way through the code.
-use Prim.Native.Nat.{ℕ, suc, ◌≤◌, ◌<◌, ◌+◌, ◌-◌}
+-- A name's place among the names that the code has, and the number that the rows give it.
+use Prim.Native.Nat.{ℕ, zero, suc, ◌+◌, ◌<◌, ◌≤◌}
 use native.Mathlib.Omega.{arith}
-use mathlib.Core.Path.{◌≡◌, refl, sym, ap, ◌∙◌}
-use mathlib.Core.Bool.{Bool, true, false}
+use native.Mathlib.Numerals.{add-one}
+use mathlib.Core.Path.{◌≡◌, refl}
+use mathlib.Core.Bool.{Bool, true, false, cond}
 use mathlib.Core.List.{List, [], ◌∷◌}
-use mathlib.Core.Option.{Option, none, some}
-use lib.Dec.{T, eqb}
-use lib.ListN.{length, get_or, get_or-map}
-use lib.Seq.{take_all}
-use mir.Syntax.{w8}
-use mir.Val.{Fits}
-use borrow.Author.Tests.{eqb-true}
-use Rattle.label.specs.Bytes.{bytes, all, same}
-use Rattle.label.specs.Choice.{pick}
-use Rattle.label.specs.Ranges.{between}
+use mathlib.Core.Option.{some}
+use lib.Dec.{ltb}
+use Rattle.std.proofs.lemmas.Bool.{lt-ltb, le-ltb}
+use lib.ListN.{length}
+use denote.Ref.{Bor}
+use native.Mathlib.Decide.{dec_lt}
+use Rattle.std.specs.List.{position_or_len}
+use Rattle.std.specs.Prelude.{Option, Some, None, unwrap_or}
+use Rattle.std.specs.Str.{bytes_eq}
+use Rattle.label.specs.Bytes.{same}
+use Rattle.label.specs.Options.{told}
 use Rattle.label.specs.Rows.{Row, named}
-use Rattle.label.specs.Lines.{no_notation, number_named, notation_named}
-use Rattle.label.proofs.Basics.{all_below, at_below}
-use Rattle.symbols.specs.Keys.{most_letters, key_of, key_from, agrees}
-use Rattle.symbols.proofs.KeyLaws.{keyable, long_other, SpellingKey, agrees_spelled, spelled_part}
-use Rattle.symbols.proofs.RowLaws.{every, every_at, first, first_none, Sought, sought_none, sought_all, sought_hit, sought_miss}
-use Rattle.notations.specs.Columns.{notation_sizes, notation_keys}
+use Rattle.label.specs.Lines.{number_named, notation_named}
+use Rattle.notations.specs.Names.{number_told}
 
-abbrev NameRow : Type 0
-NameRow = Row (List ℕ)
+-- what tells the number tells it by 0 too
+pub told_or_0 : (n : ℕ) (r : Option ℕ) → told r ≡ number_told n → unwrap_or r 0 ≡ n
+told_or_0 zero None e = refl
+told_or_0 zero (Some a) e = absurd (cc)
+told_or_0 (suc n) None e = absurd (cc)
+told_or_0 (suc n) (Some a) e = cc
 
--- what is past the end of the rows
-abbrev nobody : NameRow
-nobody = record { number = no_notation; value = [] }
+-- the rows of some names, of which the first has the number k + 1
+unfoldable pub rows : ℕ → List (Bor (List ℕ)) → List (Row (List ℕ))
+rows k [] = []
+rows k (x ∷ xs) = record { number = suc k; value = x.now } ∷ rows (suc k) xs
 
--- A NAME AS A SEARCH
+same_eq : (s t : List ℕ) → same s t ≡ bytes_eq s t
+unfolding same
+same_eq [] [] = refl
+same_eq [] (d ∷ t) = refl
+same_eq (c ∷ s) [] = refl
+same_eq (c ∷ s) (d ∷ t) = rw (same_eq s t)
 
-abbrev has_value : List ℕ → NameRow → Bool
-has_value s x = same s x.value
+abbrev pub place : List ℕ → List (Bor (List ℕ)) → ℕ
+place s = position_or_len (λ x. bytes_eq s x.now)
 
-abbrev its_number : ℕ → NameRow → ℕ
-its_number i x = x.number
+-- what the place p of n gives
+record Numbered (k p n : ℕ) (number : ℕ) : Type 0 where
+  here : p < n → number ≡ k + p + 1
+  none : n ≤ p → number ≡ 0
 
-abbrev number_or_none : Option ℕ → ℕ
-number_or_none none = no_notation
-number_or_none (some n) = n
-
-named_first : (s : List ℕ) (i : ℕ) (xs : List NameRow) → number_or_none (first (has_value s) its_number i xs) ≡ number_named s xs
-unfolding number_named first
-named_first s i [] = refl
-named_first s i (x ∷ xs) = go (same s x.value) (named_first s (suc i) xs)
+named_by : (s : List ℕ) (k : ℕ) (xs : List (Bor (List ℕ))) → Numbered k (place s xs) (length xs) (number_named s (rows k xs))
+unfolding number_named rows
+named_by s k [] = record { here = λ h. absurd (omega arith); none = λ h. refl }
+named_by s k (x ∷ xs) = go (same s x.now) (same_eq s x.now) (named_by s (suc k) xs)
   where
-    go : (b : Bool) → number_or_none (first (has_value s) its_number (suc i) xs) ≡ number_named s xs
-        → number_or_none (pick b (some x.number) (first (has_value s) its_number (suc i) xs)) ≡ elim b as (λ (z : Bool). ℕ) [ true ↦ x.number | false ↦ number_named s xs ]
-    go true ih = refl
-    go false ih = ih
+    go : (b : Bool) → b ≡ bytes_eq s x.now → Numbered (suc k) (place s xs) (length xs) (number_named s (rows (suc k) xs)) →
+        Numbered k (place s (x ∷ xs)) (suc (length xs)) (elim b as (λ (z : Bool). ℕ) [ true ↦ suc k | false ↦ number_named s (rows (suc k) xs) ])
+    go true e ih = rw (← e) (record { here = λ h. omega arith; none = λ h. absurd (omega arith) })
+    go false e ih = rw (← e) (record { here = λ h. omega (arith, ih.here (omega arith)); none = λ h. ih.none (omega arith) })
 
--- THE COLUMNS
+-- what the answer r, a place, tells of the number of the name s
+pub record Tells (s : List ℕ) (r : Option ℕ) : Type 0 where
+  pub found : {p : ℕ} → r ≡ Some p → some (p + 1) ≡ number_told (notation_named s)
+  pub missing : r ≡ None → told None ≡ number_told (notation_named s)
 
--- every name has a key, and the rows are in the order of their numbers
-test_names : T (every (λ (x : NameRow). keyable x.value) named)
-unfolding every keyable named bytes all
-test_names = tt
-
-abbrev in_order : ℕ → Bool
-in_order i = eqb (get_or named i nobody).number (i + 1)
-
-test_order : all_below in_order (length named) ≡ true
-unfolding all_below named
-test_order = refl
-
-nobody_keyable : T (keyable [])
-unfolding keyable all
-nobody_keyable = tt
-
--- of the rows before i none has the name s, whose size and key are given
-pub record SearchingNotations (s : List ℕ) (size number i : ℕ) : Type 0 where
-  pub spelled : SpellingKey s size number
-  pub sought : Sought (has_value s) its_number named (first (has_value s) its_number 0 named) i
-
-pub search_start : (s : List ℕ) (number : ℕ) → ((i : ℕ) → Fits w8 (get_or s i 0)) → number ≡ key_of (between s 0 (length s)) → SearchingNotations s (length s) number 0
-search_start s number f e =
-    let none : length s - 0 ≡ length s = omega arith in
-    record { spelled = rw (none, take_all (length s) s (omega arith)) at (spelled_part s 0 (length s) (omega arith) (omega arith) f number e); sought = sought_none refl }
-
-module _ {s : List ℕ} {size number : ℕ} where
-  module _ {i : ℕ} (w : SearchingNotations s size number i) where
-    pub search_all : length named ≤ i → no_notation ≡ notation_named s
-    unfolding notation_named
-    search_all h = ap number_or_none (sought_all h w.sought) ∙ named_first s 0 named
-
-    agrees_at : agrees size number (get_or notation_sizes i 0) (get_or notation_keys i 0) ≡ has_value s (get_or named i nobody)
-    unfolding notation_sizes notation_keys key_from
-    agrees_at =
-        rw (get_or-map (λ (x : NameRow). length x.value) named i nobody, get_or-map (λ (x : NameRow). key_of x.value) named i nobody)
-        (agrees_spelled w.spelled (get_or named i nobody).value (every_at (λ (x : NameRow). keyable x.value) named nobody test_names nobody_keyable i))
-
-    module _ {b : Bool} (h : i < length named) (e : b ≡ agrees size number (get_or notation_sizes i 0) (get_or notation_keys i 0)) where
-      pub search_hit : b ≡ true → i + 1 ≡ notation_named s
-      unfolding notation_named
-      search_hit t =
-          sym (eqb-true (get_or named i nobody).number (i + 1) (at_below in_order (length named) test_order i h))
-          ∙ ap number_or_none (sought_hit nobody h w.sought (sym agrees_at ∙ sym e ∙ t)) ∙ named_first s 0 named
-
-      pub search_miss : b ≡ false → SearchingNotations s size number (i + 1)
-      search_miss t = record { spelled = w.spelled; sought = sought_miss nobody h w.sought (sym agrees_at ∙ sym e ∙ t) }
-
--- no name has more letters than a key holds
-pub too_long : (s : List ℕ) → most_letters < length s → no_notation ≡ notation_named s
+-- the names are xs, which l shows
+pub by_place : {l xs : List (Bor (List ℕ))} {s : List ℕ} {r : Option ℕ} → l ≡ xs → named ≡ rows 0 xs →
+    r ≡ cond (ltb (place s xs) (length xs)) (Some (place s xs)) None → Tells s r
 unfolding notation_named
-too_long s h =
-    ap number_or_none (sym (first_none (has_value s) (λ (x : NameRow). keyable x.value) its_number 0 named test_names (λ x t. long_other s x.value h t)))
-    ∙ named_first s 0 named
+by_place {l} {xs} {s} {r} _ e f = go (dec_lt (place s xs) (length xs)) (rw (← e) at (named_by s 0 xs))
+  where
+    go : Dec (place s xs < length xs) → Numbered 0 (place s xs) (length xs) (number_named s named) → Tells s r
+    go (yes h) w =
+        let g : r ≡ Some (place s xs) = rw lt-ltb at f in
+        let n : number_named s named ≡ suc (place s xs) = omega (arith, w.here h) in
+        record { found = λ {p} i. (let k : p ≡ place s xs = cc in rw (n, k, add-one (place s xs))); missing = λ i. absurd (cc) }
+    go (no h) w =
+        let k : length xs ≤ place s xs = omega arith in
+        let g : r ≡ None = rw le-ltb at f in
+        let n : number_named s named ≡ 0 = w.none k in
+        record { found = λ i. absurd (cc); missing = λ i. rw n }

@@ -23,3 +23,7 @@ style_in y = record {
 pub record StyleOf (n : ℕ) (y : Style) : Type 0 where
   pub is : spec.style_of n ≡ some (style_in y)
   pub number : y.notation ≡ n
+
+-- b is the byte that joins units in notation n
+pub record JointOf (n b : ℕ) : Type 0 where
+  pub is : (y : spec.Style) → spec.style_of n ≡ some y → y.joint ≡ b ∷ []

@@ -1,48 +1,50 @@
 -- What the functions that read a label answer.
-use Rattle.std.specs.Prelude.{ℕ, ◌+◌, ◌≤◌, ◌<◌, ◌≡◌, false, List, ℤ, pos, length}
-use Rattle.label.specs.declared.Tens.{Tens}
+use Rattle.std.specs.Prelude.{ℕ, ◌+◌, ◌≤◌, ◌<◌, ◌≡◌, List, length, Result, Ok, Err}
+use Rattle.label.specs.declared.Refusal.{Refusal}
+use Rattle.label.specs.Refusals.{number_of}
 use Rattle.label.specs.Reading.{reading}
 use Rattle.label.specs.Letters.{letters_start, letters_size}
-use Rattle.descent.specs.Terms.{Lent, count, NoTerms, start_at, end_at}
-use Rattle.content.specs.declared.verdicts.Verdicts.{Verdicts}
-use Rattle.content.specs.Views.{term_in, unit_in, letters_at, letters_end, names_size}
+use Rattle.symbols.specs.declared.SymbolAt.{SymbolAt}
+use Rattle.symbols.specs.declared.Span.{Span}
+use Rattle.symbols.specs.declared.UnitAt.TheVariants.{Unknown}
+use Rattle.symbols.specs.Views.{BoundedSymbol}
+use Rattle.descent.specs.declared.terms.Terms.{Terms}
+use Rattle.descent.specs.Terms.{count, term_at, NoTerms}
+use Rattle.content.specs.Views.{noted_symbol, term_in, unit_in, letters_at, letters_end}
 use Rattle.content.specs.Named.{Nameable}
-use Rattle.content.specs.Sums.{zero_sums, prime_count, sum_count}
+use Rattle.content.specs.Sums.{NoSums, prime_count}
 use Rattle.reading.specs.declared.read.Answer.{Answer}
+use Rattle.reading.specs.declared.read.Content.{Content}
 use Rattle.reading.specs.Views.{reading_in}
 
--- arrays to read into: no term yet, and sums of nothing
-pub record Fresh (t : Lent) (x : List ℕ) (zs : List ℤ) : Type 0 where
-  pub terms : NoTerms t
-  pub names : length x ≡ names_size
-  pub sums : zs ≡ zero_sums sum_count
+-- content to read into: no term yet, and sums of nothing
+pub record Fresh (c : Content) : Type 0 where
+  pub terms : NoTerms c.terms
+  pub sums : NoSums c.sums
 
-abbrev pub answer : Tens → Verdicts → Answer
-answer k v = record { number = 0; k = k; known = v.known; lawful = v.lawful; recommended = v.recommended }
-
--- "A refused reading has .. k = 0 .. and all verdicts no."
-abbrev pub refused_answer : ℕ → Answer
-refused_answer i = record { number = i; k = record { 0 = pos 0 }; known = false; lawful = false; recommended = false }
-
--- the letters of the unknown unit of term i, one or more, are in the term's spelling
-pub record LettersInTerm (t : Lent) (x : List ℕ) (i : ℕ) : Type 0 where
-  pub from : start_at t.places i ≤ letters_at x i
-  pub some : letters_at x i < letters_end x i
-  pub upto : letters_end x i ≤ end_at t.places i
+-- the letters l of the unknown unit of term i, one or more, are in the term's spelling
+pub record LettersInTerm (t : Terms) (i : ℕ) (l : Span) : Type 0 where
+  pub from : (term_at t i).start ≤ l.start
+  pub some : l.start < l.end
+  pub upto : l.end ≤ (term_at t i).end
 
 -- the letters of term i are noted where the label has them, none for a known unit
-pub record LettersNoted (s : List ℕ) (t : Lent) (x : List ℕ) (i : ℕ) : Type 0 where
+pub record LettersNoted (s : List ℕ) (t : Terms) (x : List SymbolAt) (i : ℕ) : Type 0 where
   pub start : letters_at x i ≡ letters_start (term_in s t x i)
   pub end : letters_end x i ≡ letters_start (term_in s t x i) + letters_size (term_in s t x i)
 
--- "what reading the text s in notation n answers": the number; and where it is 0, all else. Then there are four exponents of primes, and
--- at most 32 terms, whose spellings are in the label, and the letters of an unknown unit are in its term's spelling.
-pub record ReadingAnswer (n : ℕ) (s : List ℕ) (t : Lent) (x : List ℕ) (ds cs : List ℤ) (r : Answer) : Type 0 where
-  pub number : r.number ≡ (reading n s).number
-  pub empty : 0 < r.number → r ≡ refused_answer r.number
-  pub is : r.number ≡ 0 → reading_in s t x ds cs r ≡ reading n s
-  pub primes : r.number ≡ 0 → length cs ≡ prime_count
-  pub counted : r.number ≡ 0 → count t ≡ length (reading n s).terms
-  pub within : r.number ≡ 0 → Nameable s t
-  pub letters : r.number ≡ 0 → (i : ℕ) → i < count t → unit_in x i ≡ 0 → LettersInTerm t x i
-  pub noted : r.number ≡ 0 → (i : ℕ) → i < count t → LettersNoted s t x i
+-- an accepted label: all of its reading is here. There are four exponents of primes, and at most 32 terms, whose spellings are in the label,
+-- the letters of an unknown unit are in its term's spelling, and prefixes and known units are in the tables.
+pub record AcceptedReading (n : ℕ) (s : List ℕ) (c : Content) (a : Answer) : Type 0 where
+  pub is : reading_in s c a ≡ reading n s
+  pub primes : length c.sums.primes ≡ prime_count
+  pub counted : count c.terms ≡ length (reading n s).terms
+  pub within : Nameable s c.terms
+  pub letters : (i : ℕ) (l : Span) → i < count c.terms → unit_in c.symbols i ≡ Unknown l → LettersInTerm c.terms i l
+  pub noted : (i : ℕ) → i < count c.terms → LettersNoted s c.terms c.symbols i
+  pub bounded : (i : ℕ) → i < count c.terms → BoundedSymbol (term_at c.terms i).start (term_at c.terms i).end (noted_symbol c.symbols i)
+
+-- "what reading the text s in notation n answers": the number of the refusal, or the whole reading
+abbrev pub ReadingAnswer : ℕ → List ℕ → Content → Result Answer Refusal → Type 0
+ReadingAnswer n s c (Ok a) = AcceptedReading n s c a
+ReadingAnswer n s c (Err e) = number_of e ≡ (reading n s).number

@@ -1,20 +1,21 @@
--- What the answer and the lent arrays of a reading stand for.
-use Rattle.std.specs.Prelude.{ℕ, List, map, ℤ}
+-- What the answer and the lent content of a reading stand for.
+use Rattle.std.specs.Prelude.{ℕ, List, map}
 use Rattle.label.specs.Reading.{exponent}
 use Rattle.label.specs.Reading as spec
-use Rattle.descent.specs.Terms.{Lent, count}
+use Rattle.descent.specs.Terms.{count}
 use Rattle.content.specs.Views.{terms_in, scale_in}
 use Rattle.reading.specs.declared.read.Answer.{Answer}
+use Rattle.reading.specs.declared.read.Content.{Content}
 
--- a reading of the label s: terms in t, what their spellings stand for in x, the dimensions in ds and the scale in cs
-unfoldable pub reading_in : List ℕ → Lent → List ℕ → List ℤ → List ℤ → Answer → spec.Reading
-reading_in s t x ds cs r = record {
-  number = r.number;
-  k = r.k;
-  terms = terms_in s t x (count t);
-  known = r.known;
-  lawful = r.lawful;
-  recommended = r.recommended;
-  dimensions = map exponent ds;
-  scale = scale_in cs;
+-- an accepted reading of the label s
+unfoldable pub reading_in : List ℕ → Content → Answer → spec.Reading
+reading_in s c a = record {
+  number = 0;
+  k = a.k;
+  terms = terms_in s c.terms c.symbols (count c.terms);
+  known = a.verdicts.known;
+  lawful = a.verdicts.lawful;
+  recommended = a.verdicts.recommended;
+  dimensions = map exponent c.sums.bases;
+  scale = scale_in c.sums.primes;
 }

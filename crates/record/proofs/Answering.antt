@@ -1,45 +1,55 @@
 -- The number that is answered, and what the buffer holds then.
-use Prim.Native.Nat.{ℕ, ◌+◌}
+use Prim.Native.Nat.{ℕ, ◌≤◌}
 use native.Mathlib.Omega.{arith}
-use mathlib.Core.Path.{◌≡◌, sym, ap, ◌∙◌}
-use mathlib.Core.Logic.{◌≢◌}
+use mathlib.Core.Path.{◌≡◌, refl, ◌∙◌}
 use mathlib.Core.List.{List}
-use lib.IntN.{ℤ}
-use lib.ListN.{length, take, drop, length-append, take-append-drop}
-use borrow.Author.Tests.{eq-eqb, ne_eqb}
+use borrow.Author.Tests.{ne_eqb}
+use Rattle.label.specs.declared.Refusal.{Refusal}
+use Rattle.label.specs.Refusals.{number_of}
 use Rattle.label.specs.Reading.{reading}
-use Rattle.label.specs.Units.{base_count}
-use Rattle.descent.specs.Terms.{Lent, count}
+use Rattle.label.specs.Limits.{most_bytes}
+use Rattle.symbols.specs.declared.SymbolAt.{SymbolAt}
+use Rattle.symbols.specs.declared.UnitAt.{UnitAt}
+use Rattle.symbols.specs.declared.UnitAt.TheVariants.{Known, Unknown}
+use Rattle.symbols.specs.Views.{BoundedUnit}
+use Rattle.descent.specs.Terms.{count, term_at}
+use Rattle.content.specs.Views.{unit_in, letters_end}
 use Rattle.content.proofs.Naming.{all_in_at}
 use Rattle.reading.specs.declared.read.Answer.{Answer}
+use Rattle.reading.specs.declared.read.Content.{Content}
 use Rattle.reading.specs.Views.{reading_in}
-use Rattle.reading.specs.Answers.{ReadingAnswer}
-use Rattle.reading.proofs.Answering.{dimensions_room}
+use Rattle.reading.specs.Answers.{AcceptedReading}
+use Rattle.reading.proofs.Answering.{refusal_some, accepted_number}
 use Rattle.record.specs.Record.{record_of, written_over, buffer_after}
 use Rattle.record.specs.Recordable.{AllNoted, Recordable}
 
-module _ {n : ℕ} {s : List ℕ} {t : Lent} {x : List ℕ} {ds cs : List ℤ} {r : Answer} (w : ReadingAnswer n s t x ds cs r) where
-  -- a refusal changes no byte
-  pub refused : (b : List ℕ) → r.number ≢ 0 → b ≡ buffer_after (reading n s) b
-  unfolding buffer_after
-  refused b h = rw (← w.number, ne_eqb r.number 0 h)
+-- a refusal changes no byte
+pub refused : (n : ℕ) (s : List ℕ) (e : Refusal) (b : List ℕ) → number_of e ≡ (reading n s).number → b ≡ buffer_after (reading n s) b
+unfolding buffer_after
+refused n s e b h = rw (← h, ne_eqb (number_of e) 0 (λ z. absurd (omega (arith, refusal_some e))))
 
-  -- an accepted reading writes its record
-  pub accepted : r.number ≡ 0 → (b : List ℕ) {c : List ℕ}
-      → ((s : List ℕ) → AllNoted s t x (count t) → c ≡ written_over (record_of (reading_in s t x ds cs r)) b) → c ≡ buffer_after (reading n s) b
-  unfolding buffer_after
-  accepted zero b q = q s (record { noted = w.noted zero }) ∙ rw (w.is zero, ← w.number, eq-eqb r.number 0 zero)
+-- an accepted reading writes its record
+pub accepted : {n : ℕ} {s : List ℕ} {c : Content} {a : Answer} → AcceptedReading n s c a → (b : List ℕ) {d : List ℕ}
+    → ((s : List ℕ) → AllNoted s c (count c.terms) → d ≡ written_over (record_of (reading_in s c a)) b) → d ≡ buffer_after (reading n s) b
+unfolding buffer_after
+accepted {s = s} w b q = q s (record { noted = w.noted }) ∙ rw (w.is, accepted_number w)
 
-pub recordable : {n : ℕ} {s : List ℕ} {t : Lent} {x : List ℕ} (zs : List ℤ) {r : Answer} → ReadingAnswer n s t x (take base_count zs) (drop base_count zs) r → r.number ≡ 0
-    → Recordable t x zs
-recordable {t = t} zs w zero = let v = w.within zero in record {
-  few = v.few;
+-- the letters of an unknown unit go up to the end of its term, which is in the label
+letters_upto : (x : List SymbolAt) (i : ℕ) (u : UnitAt) (start : ℕ) {end : ℕ} → unit_in x i ≡ u → BoundedUnit start end u → end ≤ most_bytes → letters_end x i ≤ most_bytes
+letters_upto x i (Known r) start e b h = rw e (omega arith)
+letters_upto x i (Unknown l) start e b h = rw e (omega (arith, b.upto))
+
+pub recordable : {n : ℕ} {s : List ℕ} {c : Content} {a : Answer} → AcceptedReading n s c a → Recordable c
+recordable {c = c} w = record {
+  few = w.within.few;
   sized = λ i h.
-      let a = all_in_at t (count t) i v.inside h in
-      let l = w.noted zero i h in
-      record { forward = a.forward; short = omega (arith, a.within, v.short); letters = omega (arith, l.start, l.end) };
-  sums =
-      ap length (sym (take-append-drop base_count zs))
-      ∙ length-append (take base_count zs) (drop base_count zs)
-      ∙ (λ i. dimensions_room w zero i + w.primes zero i);
+      let a = all_in_at c.terms (count c.terms) i w.within.inside h in
+      let l = w.noted i h in
+      let short : (term_at c.terms i).end ≤ most_bytes = omega (arith, a.within, w.within.short) in
+      record {
+        forward = a.forward;
+        short = short;
+        letters = omega (arith, l.start, l.end);
+        upto = letters_upto c.symbols i (unit_in c.symbols i) _ refl (w.bounded i h).unit short;
+      };
 }

@@ -5,5 +5,4 @@ pub mod Joining
 pub mod Lending
 pub mod ReadingBack
 pub mod SameRecords
-pub mod Signed
 pub mod Writing

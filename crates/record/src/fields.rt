@@ -1,16 +1,16 @@
 // The numbers of a reading.
-ghost use Rattle.std.specs.Prelude.{ℕ, ◌≤◌, ◌<◌, ◌≡◌, List, length};
+ghost use Rattle.std.specs.Prelude.{ℕ, ◌≤◌, ◌<◌, ◌^◌, ◌≡◌, List, pos, length};
+ghost use Rattle.std.proofs.Math.Option.{Option as Place};
 ghost use Rattle.label.specs.Limits.{most_terms};
-ghost use Rattle.descent.specs.Terms.{lent};
-ghost use Rattle.content.specs.Views.{term_in};
+ghost use Rattle.label.specs.Options.{told};
+ghost use Rattle.symbols.specs.Views.{unit_with};
+ghost use Rattle.content.specs.Views.{term_in, first_letter, last_letter};
 ghost use Rattle.reading.specs.Answers.{LettersNoted};
 ghost use Rattle.record.specs.Record as spec;
 ghost use Rattle.record.specs.Recordable.{Sized};
 
-use content::named::{LETTER_ENDS, LETTER_STARTS, NAME_PLACES, UNIT_CODES, number_at};
-use descent::terms::{ENDS, PLACES};
-use label::MOST_TERMS;
-use reading::read::Answer;
+use reading::read::{Answer, Content};
+use symbols::{Span, UnitAt};
 
 // How many numbers there are before the terms, and how many a term has.
 pub const HEAD_FIELDS: usize = 6;
@@ -20,56 +20,69 @@ pub const TERM_FIELDS: usize = 7;
 fn flag(b: bool) -> i64
     ensures { result ≡ spec.flag b }
 {
-    if b {
-        return 1;
+    i64::from(b)
+}
+
+// One more than a place in a table; 0 is none, as the record has it.
+fn code(place: Option<u8>) -> i64
+    ensures { (result ≡ pos (spec.code (told place))) × (spec.code (told place) ≤ 2 ^ 8) }
+{
+    match place {
+        Some(p) => i64::from(p) + 1,
+        None => 0,
     }
-    0
+}
+
+// The row of a unit, if it is known.
+fn row(unit: UnitAt) -> Option<u8>
+    ensures { (s : List ℕ) (p : Place ℕ) → spec.code (told result) ≡ spec.unit_code (unit_with s p unit) }
+{
+    match unit {
+        UnitAt::Known(u) => Some(u),
+        UnitAt::Unknown(_) => None,
+    }
+}
+
+// Where the letters of a unit are: those of a known one, from 0 up to 0.
+fn letters(unit: UnitAt) -> Span
+    ensures { (result.start ≡ first_letter unit) × (result.end ≡ last_letter unit) }
+{
+    match unit {
+        UnitAt::Known(_) => Span { start: 0, end: 0 },
+        UnitAt::Unknown(letters) => letters,
+    }
 }
 
 // The numbers of term `i`.
-pub fn term_fields(
-    places: &[usize; PLACES],
-    exponents: &[i32; MOST_TERMS],
-    names: &[u8; NAME_PLACES],
-    i: usize,
-) -> [i64; TERM_FIELDS]
-    requires { (i < most_terms) × Sized (lent places.now exponents.now) names.now i }
+pub fn term_fields(content: &Content, i: usize) -> [i64; TERM_FIELDS]
+    requires { (i < most_terms) × Sized content.now i }
     ensures result_len { length result ≡ spec.fields_in_term }
-    ensures by_index { (s : List ℕ) → LettersNoted s (lent places.now exponents.now) names.now i
-        → result ≡ spec.term_fields (term_in s (lent places.now exponents.now) names.now i) }
+    ensures by_index { (s : List ℕ) → LettersNoted s content.now.terms content.now.symbols i
+        → result ≡ spec.term_fields (term_in s content.now.terms content.now.symbols i) }
 {
-    let prefix = number_at(names, i);
-    let unit = number_at(names, UNIT_CODES + i);
-    let start = places[i];
-    let end = places[ENDS + i];
-    let first = number_at(names, LETTER_STARTS + i);
-    let last = number_at(names, LETTER_ENDS + i);
+    let term = content.terms.items[i];
+    let symbol = content.symbols[i];
+    let letters = letters(symbol.unit);
     [
-        prefix as i64,
-        unit as i64,
-        exponents[i] as i64,
-        start as i64,
-        (end - start) as i64,
-        first as i64,
-        (last - first) as i64,
+        code(symbol.prefix),
+        code(row(symbol.unit)),
+        i64::from(term.exponent.0),
+        term.start as i64,
+        (term.end - term.start) as i64,
+        letters.start as i64,
+        (letters.end - letters.start) as i64,
     ]
 }
 
-// The numbers before the terms.
+// The numbers before the terms, of an accepted reading: the first is 0.
 pub fn head_fields(a: Answer, count: usize) -> [i64; HEAD_FIELDS]
     requires { count ≤ most_terms }
-    ensures { result ≡ spec.head_of a.number a.k a.known a.lawful a.recommended count }
+    ensures { result ≡ spec.head_of 0 a.k a.verdicts.known a.verdicts.lawful a.verdicts.recommended count }
 {
     let k = a.k;
-    let known = flag(a.known);
-    let lawful = flag(a.lawful);
-    let recommended = flag(a.recommended);
-    [
-        a.number as i64,
-        k.0 as i64,
-        known,
-        lawful,
-        recommended,
-        count as i64,
-    ]
+    let verdicts = a.verdicts;
+    let known = flag(verdicts.known);
+    let lawful = flag(verdicts.lawful);
+    let recommended = flag(verdicts.recommended);
+    [0, k.0 as i64, known, lawful, recommended, count as i64]
 }

@@ -1,20 +1,17 @@
 // The record of a reading.
-ghost use Rattle.std.specs.Prelude.{ℕ, ◌+◌, ◌*◌, ◌-◌, ◌≤◌, ◌<◌, ◌≡◌, List, ◌++◌, length, take, drop, get_or};
-ghost use Rattle.label.specs.Limits.{most_terms};
-ghost use Rattle.label.specs.Units.{base_count};
-ghost use Rattle.descent.specs.Terms.{lent};
+ghost use Rattle.std.specs.Prelude.{ℕ, ◌+◌, ◌*◌, ◌-◌, ◌≤◌, ◌≡◌, List, ◌++◌, length, take};
+ghost use Rattle.descent.specs.Terms.{count};
 ghost use Rattle.content.specs.Views.{terms_in};
 ghost use Rattle.reading.specs.Views.{reading_in};
 ghost use Rattle.record.specs.Record.{encoded, terms_fields, record_of, head_size, term_place, dimensions_place, record_size};
-ghost use Rattle.record.specs.Recordable.{Sized, AllNoted, Recordable};
+ghost use Rattle.record.specs.Recordable.{AllNoted, Recordable};
 
 use crate::field_bytes::{FIELD_SIZE, clear, put_all};
 use crate::fields::{HEAD_FIELDS, TERM_FIELDS, head_fields, term_fields};
-use content::named::NAME_PLACES;
-use content::sums::SUMS;
-use descent::terms::{COUNT, PLACES};
+use content::sums::BASES;
 use label::MOST_TERMS;
-use reading::read::Answer;
+use reading::read::{Answer, Content};
+use symbols::size_table::PRIMES;
 
 // Places in the record, in bytes.
 const HEAD_SIZE: usize = FIELD_SIZE * HEAD_FIELDS;
@@ -23,48 +20,35 @@ const TERM_SIZE: usize = FIELD_SIZE * TERM_FIELDS;
 
 const DIMENSIONS_PLACE: usize = HEAD_SIZE + TERM_SIZE * MOST_TERMS;
 
-pub const RECORD_SIZE: usize = DIMENSIONS_PLACE + FIELD_SIZE * SUMS;
+const SCALE_PLACE: usize = DIMENSIONS_PLACE + FIELD_SIZE * BASES;
 
-// Writes the first `count` terms.
-fn put_terms(
-    b: &mut [u8],
-    count: usize,
-    places: &[usize; PLACES],
-    exponents: &[i32; MOST_TERMS],
-    names: &[u8; NAME_PLACES],
-)
-    requires count_le_most_terms { (count ≤ most_terms) × (dimensions_place ≤ length b.old) }
-    requires by_index { (i : ℕ) → i < count → Sized (lent places.now exponents.now) names.now i }
-    ensures { (s : List ℕ) → AllNoted s (lent places.now exponents.now) names.now count
-        → take (term_place count) b.new ≡ take head_size b.old
-        ++ encoded (terms_fields (terms_in s (lent places.now exponents.now) names.now count)) }
+pub const RECORD_SIZE: usize = SCALE_PLACE + FIELD_SIZE * PRIMES;
+
+// Writes the terms.
+fn put_terms(b: &mut [u8], content: &Content)
+    requires { (dimensions_place ≤ length b.old) × Recordable content.now }
+    ensures { (s : List ℕ) → AllNoted s content.now (count content.now.terms)
+        → take (term_place (count content.now.terms)) b.new ≡ take head_size b.old
+        ++ encoded (terms_fields (terms_in s content.now.terms content.now.symbols (count content.now.terms))) }
 {
-    let mut i = 0;
-    while i < count {
-        let f = term_fields(places, exponents, names, i);
+    // By index: it is the term's place in the record too.
+    for i in 0..content.terms.count {
+        let f = term_fields(content, i);
         put_all(b, HEAD_SIZE + TERM_SIZE * i, &f);
-        i += 1;
     }
 }
 
-// Writes the record of a reading: its answer and its arrays, as reading::read::read leaves them.
-pub fn put_record(
-    b: &mut [u8],
-    a: Answer,
-    places: &[usize; PLACES],
-    exponents: &[i32; MOST_TERMS],
-    names: &[u8; NAME_PLACES],
-    sums: &[i64; SUMS],
-)
-    requires { (length b.old ≡ record_size) × Recordable (lent places.now exponents.now) names.now sums.now }
-    ensures { (s : List ℕ) → AllNoted s (lent places.now exponents.now) names.now (get_or places.now 64 0)
-        → b.new ≡ record_of (reading_in s (lent places.now exponents.now)
-        names.now (take base_count sums.now) (drop base_count sums.now) a) }
+// Writes the record of an accepted reading: its answer and its content, as reading::read::read leaves it.
+pub fn put_record(b: &mut [u8], a: Answer, content: &Content)
+    requires { (length b.old ≡ record_size) × Recordable content.now }
+    ensures { (s : List ℕ) → AllNoted s content.now (count content.now.terms)
+        → b.new ≡ record_of (reading_in s content.now a) }
 {
-    let count = places[COUNT];
+    let count = content.terms.count;
     let head = head_fields(a, count);
     put_all(b, 0, &head);
-    put_terms(b, count, places, exponents, names);
+    put_terms(b, content);
     clear(b, HEAD_SIZE + TERM_SIZE * count, DIMENSIONS_PLACE);
-    put_all(b, DIMENSIONS_PLACE, sums);
+    put_all(b, DIMENSIONS_PLACE, &content.sums.bases);
+    put_all(b, SCALE_PLACE, &content.sums.primes);
 }

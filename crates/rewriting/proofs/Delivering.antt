@@ -1,33 +1,39 @@
 -- What is answered for a written text and a lent buffer, and for a label that is read.
-use Prim.Native.Nat.{ℕ, ◌-◌, ◌≤◌, ◌<◌}
+use Prim.Native.Nat.{ℕ, ◌≤◌, ◌<◌}
 use native.Mathlib.Omega.{arith}
-use mathlib.Core.Path.{◌≡◌, refl, sym, ◌∙◌}
-use mathlib.Core.Logic.{◌≢◌}
+use mathlib.Core.Path.{◌≡◌, refl, sym, ap, ◌∙◌}
 use mathlib.Core.Bool.{true, false}
-use mathlib.Core.List.{List, ◌++◌, map}
-use mathlib.Core.Option.{Option, some}
-use lib.Dec.{leb}
-use lib.IntN.{ℤ}
-use lib.ListN.{length, take, drop}
-use lib.Seq.{length-take-le}
-use borrow.Author.Tests.{le-leb, lt-leb, eq-eqb, ne_eqb}
+use mathlib.Core.List.{List, [], ◌++◌, map}
+use mathlib.Core.Option.{none}
+use lib.Dec.{eqb}
+use lib.ListN.{length, drop}
+use borrow.Author.Tests.{le-leb, lt-leb, ne_eqb}
+use Rattle.std.specs.Prelude.{Option, Some, None, Result, Ok, Err}
+use Rattle.std.specs.Option.{ok_or}
+use Rattle.label.specs.declared.Refusal.{Refusal}
+use Rattle.label.specs.declared.Refusal.TheVariants.{ShortBuffer}
+use Rattle.label.specs.declared.Tens.{Tens}
 use Rattle.label.specs.Notations.{notation}
-use Rattle.label.specs.Ranges.{between}
-use Rattle.label.specs.Writing.{Rewriting, refuse_rewriting, unless, sized, rewriting, label_text, written_by, written, writable}
-use Rattle.label.proofs.Between.{length_between}
-use Rattle.descent.specs.Terms.{Lent, count}
-use Rattle.content.specs.Views.{terms_in}
+use Rattle.label.specs.Refusals.{number_of}
+use Rattle.label.specs.Writing.{Writable, Rewriting, refuse_rewriting, unless, sized, rewriting, label_text, written_by, written, writable, fitted, buffer_with}
+use Rattle.label.specs.Reading.{reading}
+use Rattle.symbols.specs.declared.UnitAt.{UnitAt}
+use Rattle.symbols.specs.declared.UnitAt.TheVariants as unit
+use Rattle.descent.specs.Terms.{count, term_at, InLabel}
+use Rattle.content.specs.Views.{unit_in}
 use Rattle.content.proofs.Naming.{all_in_at}
 use Rattle.reading.specs.declared.read.Answer.{Answer}
+use Rattle.reading.specs.declared.read.Content.{Content}
 use Rattle.reading.specs.Views.{reading_in}
-use Rattle.reading.specs.Answers.{ReadingAnswer}
-use Rattle.rewriting.specs.declared.rewrite.Rewritten.{Rewritten}
+use Rattle.reading.specs.Answers.{AcceptedReading}
+use Rattle.reading.proofs.Answering.{refusal_some}
 use Rattle.notations.specs.declared.rows.Style.{Style}
-use Rattle.rewriting.specs.Texts.{HoldsText}
 use Rattle.notations.specs.Styles.{style_in, StyleOf}
-use Rattle.rewriting.specs.Units.{AllTerms}
-use Rattle.label.specs.Writing.{fitted, rewriting_into, buffer_with}
-use Rattle.rewriting.specs.Buffers.{AnswerIs}
+use Rattle.rewriting.specs.Texts.{WritesForm}
+use Rattle.rewriting.specs.Units.{UnitInside}
+use Rattle.rewriting.specs.Sources.{AllTerms, source_terms}
+use Rattle.rewriting.specs.Buffers.{AnswerIs, accepted, Answers, Delivers, answer_of}
+use Rattle.rewriting.proofs.TextLaws.{from_start, held_some, held_over}
 
 -- REFUSALS
 
@@ -44,104 +50,104 @@ pub keeps : {x : Rewriting} (i : ℕ) (b : List ℕ) → x ≡ refuse_rewriting 
 unfolding buffer_with
 keeps i b e = rw e
 
--- an answer under another name
-pub answers_as : {x y : Rewriting} {r : Rewritten} → x ≡ y → AnswerIs y r → AnswerIs x r
-answers_as e w = rw e w
+pub refused : {x : Rewriting} {b : List ℕ} (e : Refusal) → x ≡ refuse_rewriting (number_of e) → Delivers x b (Err e) b
+refused {b = b} e h =
+    let f : fitted (length b) (refuse_rewriting (number_of e)) ≡ refuse_rewriting (number_of e) = fitted_refusal (length b) (number_of e) in
+    rw h (record { answers = f; buffer = keeps (number_of e) b f })
 
-pub buffer_as : {x y : Rewriting} (b d : List ℕ) → x ≡ y → d ≡ buffer_with y b → d ≡ buffer_with x b
-buffer_as b d e w = rw e w
+-- the same under another name
+pub delivers_as : {x y : Rewriting} {b c : List ℕ} {r : Result ℕ Refusal} → x ≡ y → Delivers y b r c → Delivers x b r c
+delivers_as e w = rw e w
 
--- what a copy of the first bytes of a text leaves
-pub copied : (t c d : List ℕ) (end : ℕ) → end ≤ length t
-    → d ≡ between t 0 end ++ drop (length (between t 0 end)) c → d ≡ take end t ++ drop end c
-copied t c d end h e =
-    let f : end - 0 ≡ end = omega arith in
-    let n : length (between t 0 end) ≡ end = length_between t 0 end h ∙ f in
-    e ∙ rw (n, f)
+-- the refusal in place of nothing
+pub refusal_is : {A : Type 0} (r : Option A) (e f : Refusal) → r ≡ None → ◌≡◌ {A = Result A Refusal} (Err f) (ok_or r e) → f ≡ e
+refusal_is None e f h q = cc
+refusal_is (Some x) e f h q = absurd (cc)
+
+-- A TEXT FOR A BUFFER
+
+module _ (t b : List ℕ) where
+  -- 14
+  pub too_short : length b < length t → Delivers (accepted t) b (Err ShortBuffer) b
+  unfolding fitted unless
+  too_short h =
+      let f : fitted (length b) (accepted t) ≡ refuse_rewriting 14 = rw (lt-leb (length t) (length b) h) in
+      record { answers = f; buffer = keeps 14 b f }
+
+  -- the bytes of the text, and all others as they were
+  pub long_enough : (n : ℕ) (c : List ℕ) → length t ≤ length b → n ≡ length t → c ≡ t ++ drop (length t) b → Delivers (accepted t) b (Ok n) c
+  unfolding fitted unless buffer_with
+  long_enough n c h e g =
+      let f : fitted (length b) (accepted t) ≡ accepted t = rw (le-leb (length t) (length b) h) in
+      record { answers = rw f (refl, sym e); buffer = rw f g }
 
 -- A WRITTEN TEXT
 
-module _ (b : List ℕ) (end size : ℕ) {o : Option (List ℕ)} (w : HoldsText b end o) where
+-- a result as an answer
+pub answered : {x : Rewriting} (r : Result ℕ Refusal) → Answers x r → AnswerIs x (answer_of r)
+answered (Ok n) w = record { number = sym w.0; length_is = sym w.1 }
+answered (Err e) w = refuses (number_of e) w
+
+module _ {m : ℕ} {y : Style} (v : StyleOf m y) (h : notation m ≡ true) (k : Tens) (ws : List Writable) where
+  abbrev wanted : Rewriting
+  wanted = unless (notation m) 1 (sized (written m k ws))
+
+  wanted_is : wanted ≡ sized (label_text (style_in y) y.notation k ws)
+  unfolding unless written written_by
+  wanted_is = rw (h, v.is, v.number)
+
   -- 12
-  pub formless_is : end ≡ 262 → fitted size (sized o) ≡ refuse_rewriting 12
+  pub formless_is : label_text (style_in y) y.notation k ws ≡ none → wanted ≡ refuse_rewriting 12
   unfolding sized
-  formless_is h = go w
-    where
-      go : HoldsText b end o → fitted size (sized o) ≡ refuse_rewriting 12
-      go (HoldsText.short t e n k q) = absurd (omega arith)
-      go (HoldsText.long t e n k) = absurd (omega arith)
-      go (HoldsText.nothing e k) = rw e (fitted_refusal size 12)
+  formless_is e = wanted_is ∙ rw e
 
-  -- 13
-  pub long_is : (end ≡ 262 → ⊥) → 255 < end → fitted size (sized o) ≡ refuse_rewriting 13
-  unfolding sized unless
-  long_is h g = go w
-    where
-      over : (t : List ℕ) → o ≡ some t → 255 < length t → fitted size (sized o) ≡ refuse_rewriting 13
-      over t e l = rw (e, lt-leb (length t) 255 l) (fitted_refusal size 13)
+  module _ {u w : Option (List ℕ)} (e : u ≡ Some []) (f : WritesForm 255 u (label_text (style_in y) y.notation k ws) w) where
+    -- 13
+    pub long_is : w ≡ None → wanted ≡ refuse_rewriting 13
+    unfolding sized unless
+    long_is g =
+        let l : 255 < length f.text = held_over 255 f.text (sym g ∙ from_start e f.writes) in
+        wanted_is ∙ rw (f.form, lt-leb (length f.text) 255 l)
 
-      go : HoldsText b end o → fitted size (sized o) ≡ refuse_rewriting 13
-      go (HoldsText.short t e n k q) = over t e (omega arith)
-      go (HoldsText.long t e n k) = over t e (omega arith)
-      go (HoldsText.nothing e k) = absurd (h k)
-
-  module _ (g : end ≤ 255) where
     -- the text that was written
-    fits_size : fitted size (sized o) ≡ unless (leb end size) 14 (record { number = 0; text = take end b })
-    unfolding sized unless fitted
-    fits_size = go w
-      where
-        go : HoldsText b end o → fitted size (sized o) ≡ unless (leb end size) 14 (record { number = 0; text = take end b })
-        go (HoldsText.short t e n k q) = rw (e, le-leb (length t) 255 (omega arith), n, q)
-        go (HoldsText.long t e n k) = absurd (omega arith)
-        go (HoldsText.nothing e k) = absurd (omega arith)
+    pub text_is : (t : List ℕ) → w ≡ Some t → (wanted ≡ accepted t) × (length t ≤ 255)
+    unfolding sized unless
+    text_is t g =
+        let l = held_some 255 f.text (sym g ∙ from_start e f.writes) in
+        let short : length f.text ≤ 255 = l.1 in
+        (wanted_is ∙ rw (f.form, le-leb (length f.text) 255 short, l.0), omega (arith, l.1, ap length l.0))
 
-    -- 14
-    pub small_is : size < end → fitted size (sized o) ≡ refuse_rewriting 14
-    unfolding unless
-    small_is h = fits_size ∙ rw (lt-leb end size h)
-
-    pub fits_is : end ≤ size → fitted size (sized o) ≡ record { number = 0; text = take end b }
-    unfolding unless
-    fits_is h = fits_size ∙ rw (le-leb end size h)
-
-module _ {x : Rewriting} (b : List ℕ) (end : ℕ) (h : end ≤ length b) (e : x ≡ record { number = 0; text = take end b }) where
-  pub accepts : AnswerIs x (record { number = 0; length = end })
-  accepts = rw e (record { number = refl; length_is = sym (length-take-le end b h) })
-
-  -- the bytes of the result, and all others as they were
-  pub changes : (c d : List ℕ) → d ≡ take end b ++ drop end c → d ≡ buffer_with x c
-  unfolding buffer_with
-  changes c d f = rw (e, length-take-le end b h) f
+pub not_wanted : (m : ℕ) (x : Rewriting) → notation m ≡ false → unless (notation m) 1 x ≡ refuse_rewriting 1
+unfolding unless
+not_wanted m x h = rw h
 
 -- A LABEL THAT IS READ
 
-module _ {n : ℕ} {s : List ℕ} {t : Lent} {x : List ℕ} {ds cs : List ℤ} {r : Answer} (w : ReadingAnswer n s t x ds cs r) (size m : ℕ) where
-  pub source_refused : r.number ≢ 0 → rewriting_into size n s m ≡ refuse_rewriting r.number
-  unfolding rewriting_into rewriting unless
-  source_refused h = rw (← w.number, ne_eqb r.number 0 h) (fitted_refusal size r.number)
+-- the refusal is due before all else
+pub refused_first : {i : ℕ} (x : Rewriting) (e : Refusal) → number_of e ≡ i → unless (eqb i 0) i x ≡ refuse_rewriting (number_of e)
+unfolding unless
+refused_first {i = i} x e h = rw (← h, ne_eqb (number_of e) 0 (λ z. omega (arith, refusal_some e)))
 
-  module _ (zero : r.number ≡ 0) where
-    pub target_refused : notation m ≡ false → rewriting_into size n s m ≡ refuse_rewriting 1
-    unfolding rewriting_into rewriting unless
-    target_refused h = rw (← w.number, eq-eqb r.number 0 zero, h) (fitted_refusal size 1)
+module _ (n : ℕ) (s : List ℕ) (m : ℕ) where
+  pub source_refused : (e : Refusal) → number_of e ≡ (reading n s).number → rewriting n s m ≡ refuse_rewriting (number_of e)
+  unfolding rewriting
+  source_refused e h = refused_first _ e h
 
-    pub terms_are : AllTerms s t.places x
-    terms_are = let v = w.within zero in record {
-      few = v.few;
-      terms = λ i h.
-          let a = all_in_at t (count t) i v.inside h in
-          record {
-            short = v.short;
-            few = omega (arith, v.few);
-            forward = a.forward;
-            within = a.within;
-            from = λ e. let l = w.letters zero i h e in omega (arith, l.some);
-            upto = λ e. let l = w.letters zero i h e in omega (arith, l.upto, a.within);
-          };
-    }
+module _ {n : ℕ} {s : List ℕ} {c : Content} {a : Answer} (w : AcceptedReading n s c a) where
+  pub terms_are : AllTerms s c
+  terms_are = record {
+    few = w.within.few;
+    terms = λ i h.
+        let t = all_in_at c.terms (count c.terms) i w.within.inside h in
+        record { short = w.within.short; few = omega (arith, w.within.few); inside = t; letters = record { inside = go i h t (unit_in c.symbols i) refl } };
+  }
+    where
+      go : (i : ℕ) → i < count c.terms → InLabel s (term_at c.terms i) → (u : UnitAt) → unit_in c.symbols i ≡ u → UnitInside s u
+      go i h t (unit.Known u) e = tt
+      go i h t (unit.Unknown l) e =
+          let v = w.letters i l h e in
+          record { forward = omega (arith, v.some); within = omega (arith, v.upto, t.within) }
 
-    pub target_written : {y : Style} → StyleOf m y → notation m ≡ true
-        → rewriting_into size n s m ≡ fitted size (sized (label_text (style_in y) y.notation r.k (map (writable s) (terms_in s t x (count t)))))
-    unfolding rewriting_into rewriting unless written written_by reading_in
-    target_written v h = rw (← w.number, eq-eqb r.number 0 zero, h, ← w.is zero, v.is, v.number)
+  pub source_read : (m : ℕ) → rewriting n s m ≡ unless (notation m) 1 (sized (written m a.k (map (writable s) (source_terms s c))))
+  unfolding rewriting unless reading_in
+  source_read m = rw (← w.is)

@@ -1,74 +1,91 @@
 -- A whole label as it is written: its terms one by one, and the factor before them.
-use Prim.Native.Nat.{ℕ, zero, suc, ◌+◌, ◌/◌, ◌≤◌, ◌<◌}
+use Prim.Native.Nat.{ℕ, zero, suc, ◌+◌, ◌-◌, ◌/◌, ◌≤◌, ◌<◌, min}
 use native.Mathlib.Omega.{arith}
 use native.Mathlib.Numerals.{add-one}
+use native.Mathlib.Decide.{dec_le}
+use Rattle.std.proofs.Math.Nat.{min-eq_left}
 use mathlib.Core.Path.{◌≡◌, refl, sym, ap, ◌∙◌}
-use mathlib.Core.Bool.{true, false}
 use mathlib.Core.List.{List, [], ◌∷◌, ◌++◌, map}
-use mathlib.Core.Option.{Option, some}
-use lib.IntN.{ℤ, pos}
+use mathlib.Core.Option.{Option as Maybe, none, some}
+use Rattle.std.specs.Prelude.{Option, Some, None}
 use lib.ListN.{length, get_or, length-append}
-use Rattle.label.proofs.Basics.{false_true}
+use Rattle.std.proofs.lemmas.List.{get_or_default}
 use Rattle.label.specs.declared.Tens.{Tens}
+use Rattle.label.specs.Limits.{most_bytes}
 use Rattle.label.specs.Ranges.{between}
-use Rattle.label.specs.Symbols as spec
-use Rattle.label.specs.Reading.{Term, exponent}
+use Rattle.label.specs.Options.{told}
+use Rattle.label.specs.Reading as spec
 use Rattle.label.specs.Writing.{Writable, factor_text, symbol_text, both_texts, unit_text, more_text, label_text, own_letters, writable}
 use Rattle.label.specs.Rows.{Style}
 use Rattle.label.proofs.Between.{drop_between}
 use Rattle.symbols.specs.declared.SymbolAt.{SymbolAt}
-use Rattle.symbols.specs.Views.{symbol_in}
-use Rattle.descent.specs.Terms.{Lent, count, start_at, end_at}
-use Rattle.content.specs.Views.{by_code, symbol_at, term_in, terms_in, prefix_at, unit_in, letters_at, letters_end}
+use Rattle.symbols.specs.declared.UnitAt.{UnitAt}
+use Rattle.symbols.specs.declared.UnitAt.TheVariants as unit
+use Rattle.symbols.specs.Views.{unit_with, symbol_in}
+use Rattle.descent.specs.declared.terms.Term.{Term}
+use Rattle.descent.specs.Terms.{count, term_at}
+use Rattle.content.specs.Views.{noted_symbol, no_symbol, symbol_at, terms_in}
+use Rattle.reading.specs.declared.read.Content.{Content}
 use Rattle.rewriting.specs.declared.form.UnitForm.{UnitForm}
 use Rattle.rewriting.specs.declared.name.Own.{Own}
 use Rattle.rewriting.specs.declared.unit.SourceTerm.{SourceTerm}
-use Rattle.rewriting.specs.Texts.{text_room, HoldsText, WritesText}
+use Rattle.rewriting.specs.Texts.{Writes, WritesForm}
 use Rattle.rewriting.specs.Names.{OwnOf}
-use Rattle.rewriting.specs.Forms.{form_text, raised_text, joint_before}
-use Rattle.rewriting.specs.Units.{PrefixCode, LettersInside, Owns, SymbolFrom, TermOf, own_at, TermIs}
-use Rattle.rewriting.proofs.TextLaws.{both_assoc, both_empty, both_start, writes_nothing, writes_then}
+use Rattle.rewriting.specs.Forms.{written_form, raised_text, joint_before}
+use Rattle.rewriting.specs.Units.{PrefixCode, LettersInside, OwnsName, Owns}
+use Rattle.rewriting.specs.Sources.{first_terms, read_term, source_terms, AllTerms, own_of, TermIs}
+use Rattle.rewriting.proofs.TextLaws.{both_assoc, both_empty, both_start, both_none, writes_nothing, has_form, both_forms}
 
 -- A TERM
 
--- the unit of a term
-module _ {x : List ℕ} {i : ℕ} {r : SymbolAt} (p : r.prefix ≡ prefix_at x i) (a : r.start ≡ letters_at x i) (z : r.end ≡ letters_end x i) where
-  pub unknown_at : r.known ≡ false → unit_in x i ≡ 0 → SymbolFrom x i r
-  unfolding symbol_in symbol_at by_code
-  unknown_at k e = record { is = λ s. rw (k, p, a, z, e); unknown = λ _. e; start = a; end = z }
+-- the letters from a place on, or none where they end before it
+capped : (s : List ℕ) (a e : ℕ) {b : ℕ} → b ≡ min a e → between s b e ≡ between s a e
+capped s a e {b = b} h = go (dec_le a e)
+  where
+    go : Dec (a ≤ e) → between s b e ≡ between s a e
+    go (yes k) = rw (h, min-eq_left k)
+    go (no k) = let x : e - b ≡ 0 = omega arith in let y : e - a ≡ 0 = omega arith in rw (x, y)
 
-  pub known_at : r.known ≡ true → suc r.unit ≡ unit_in x i → SymbolFrom x i r
-  unfolding symbol_in symbol_at by_code
-  known_at k e = record { is = λ s. rw (k, p, ← e); unknown = λ q. absurd (false_true (sym q ∙ k)); start = a; end = z }
-
--- its letters, if it is unknown
-pub letters_inside : {s p x : List ℕ} {i : ℕ} {u : SymbolAt} → TermOf s p x i → SymbolFrom x i u → LettersInside s u
-letters_inside w v = record {
-  forward = λ e. rw (v.start, v.end) (w.from (v.unknown e));
-  within = λ e. rw v.end (w.upto (v.unknown e));
-}
-
-module _ {s p x : List ℕ} {i : ℕ} (w : TermOf s p x i) {u : SymbolAt} (v : SymbolFrom x i u) {code : ℕ} (c : PrefixCode u.prefix code) where
-  own_part : u.known ≡ true → own_at s p x i ≡ between s (start_at p i + code / 65536) (end_at p i)
+module _ {s : List ℕ} {t : Term} {u : SymbolAt} {code : ℕ} (c : PrefixCode u.prefix code) {first : ℕ} (h : first ≡ min (t.start + code / 65536) t.end)
+    {own : Own} (o : OwnOf (between s first t.end) own) where
+  pub term_is : TermIs s t u (record { unit = u; own = own })
   unfolding own_letters symbol_in
-  own_part e = rw (← v.is s, e, ← c.size, drop_between s (start_at p i) (end_at p i) (code / 65536))
+  term_is = record { unit = refl; own = record { owns = go u.unit } }
+    where
+      go : (v : UnitAt) → OwnsName (own_letters (unit_with s (told u.prefix) v) (between s t.start t.end)) own v
+      go (unit.Known v) = rw (← c.size, drop_between s t.start t.end (code / 65536), ← capped s (t.start + code / 65536) t.end h) o
+      go (unit.Unknown l) = tt
 
-  pub term_is : {own : Own} → OwnOf (between s (start_at p i + code / 65536) (end_at p i)) own → TermIs s p x i (record { unit = u; own = own })
-  term_is o = record { unit = v.is s; lettered = letters_inside w v; own = record { owns = λ e. rw (own_part e) o } }
+-- term i, by what is noted of it
+pub noted_at : (c : Content) (i : ℕ) (d : SymbolAt) → i < length c.symbols → get_or c.symbols i d ≡ noted_symbol c.symbols i
+noted_at c i d h = get_or_default c.symbols i d no_symbol h
 
--- a term in the form that its unit takes
-pub term_written : (y : Style) (m : ℕ) (s : List ℕ) (t : Lent) (x : List ℕ) (i : ℕ) (f : UnitForm) {r : SourceTerm} {e : ℤ} {b c : List ℕ} {at q : ℕ}
-    → WritesText b at (raised_text y s f (exponent e)) c q → TermIs s t.places x i r
-    → ((own : List ℕ) → Owns own r → form_text s f ≡ symbol_text y m own (symbol_in s r.unit)) → e ≡ get_or t.exponents i (pos 0)
-    → WritesText b at (unit_text y m (writable s (term_in s t x i))) c q
-unfolding unit_text writable
-term_written y m s t x i f w v g p =
-    rw (← p, ← g (own_at s t.places x i) v.own ∙ ap (λ (u : spec.Symbol). symbol_text y m (own_at s t.places x i) u) v.unit) w
+-- its letters are in the label, which is short
+pub letters_inside : {s : List ℕ} {c : Content} {i : ℕ} {t : Term} {x : SymbolAt} {r : SourceTerm} → AllTerms s c → i < count c.terms
+    → x ≡ noted_symbol c.symbols i → TermIs s t x r → LettersInside s r.unit × (length s ≤ most_bytes)
+letters_inside {i = i} a h q v = (rw (v.unit, q) (a.terms i h).letters, (a.terms i h).short)
+
+-- in the form that its unit takes
+module _ (y : Style) (m : ℕ) (s : List ℕ) (c : Content) (i : ℕ) {x : SymbolAt} (q : x ≡ noted_symbol c.symbols i) {r : SourceTerm}
+    (v : TermIs s (term_at c.terms i) x r) (o : Option UnitForm) (g : (own : List ℕ) → Owns own r → written_form s o ≡ symbol_text y m own (symbol_in s r.unit)) where
+  symbol_written : symbol_text y m (writable s (read_term s c i)).own (symbol_at s c.symbols i) ≡ written_form s o
+  unfolding writable
+  symbol_written =
+      sym (g (own_of s (term_at c.terms i) (noted_symbol c.symbols i)) (rw q at v.own)
+      ∙ ap (λ (u : SymbolAt). symbol_text y m (own_of s (term_at c.terms i) (noted_symbol c.symbols i)) (symbol_in s u)) (v.unit ∙ q))
+
+  pub term_formless : o ≡ None → unit_text y m (writable s (read_term s c i)) ≡ none
+  unfolding unit_text writable written_form both_texts
+  term_formless e = rw (symbol_written, e)
+
+  pub term_raised : {f : UnitForm} → o ≡ Some f → raised_text y s f (term_at c.terms i).exponent ≡ unit_text y m (writable s (read_term s c i))
+  unfolding unit_text writable written_form
+  term_raised e = rw (symbol_written, e)
 
 -- ONE TERM MORE
 
 -- what label_text has after the factor
-unfoldable pub terms_text : Style → ℕ → List Writable → Option (List ℕ)
+unfoldable pub terms_text : Style → ℕ → List Writable → Maybe (List ℕ)
 terms_text y m [] = some []
 terms_text y m (w ∷ ws) = both_texts (unit_text y m w) (more_text y m ws)
 
@@ -91,53 +108,69 @@ unfolding label_text terms_text
 label_terms y m k [] h = absurd (omega arith)
 label_terms y m k (w ∷ ws) h = refl
 
-map_snoc : (s : List ℕ) (ts : List Term) (t : Term) → map (writable s) (ts ++ t ∷ []) ≡ map (writable s) ts ++ writable s t ∷ []
+map_snoc : (s : List ℕ) (ts : List spec.Term) (t : spec.Term) → map (writable s) (ts ++ t ∷ []) ≡ map (writable s) ts ++ writable s t ∷ []
 map_snoc s [] t = refl
 map_snoc s (x ∷ ts) t = ap (λ (l : List Writable). writable s x ∷ l) (map_snoc s ts t)
 
-terms_length : (s : List ℕ) (t : Lent) (x : List ℕ) (i : ℕ) → length (map (writable s) (terms_in s t x i)) ≡ i
+terms_length : (s : List ℕ) (c : Content) (i : ℕ) → length (map (writable s) (first_terms s c i)) ≡ i
 unfolding terms_in
-terms_length s t x zero = refl
-terms_length s t x (suc i) = rw (map_snoc s (terms_in s t x i) (term_in s t x i), length-append) (rw (terms_length s t x i) (add-one i))
+terms_length s c zero = refl
+terms_length s c (suc i) = rw (map_snoc s (first_terms s c i) (read_term s c i), length-append) (rw (terms_length s c i) (add-one i))
 
 -- the first i terms as they are written
-abbrev pub text_of : Style → ℕ → List ℕ → Lent → List ℕ → ℕ → Option (List ℕ)
-text_of y m s t x i = terms_text y m (map (writable s) (terms_in s t x i))
+abbrev pub text_of : Style → ℕ → List ℕ → Content → ℕ → Maybe (List ℕ)
+text_of y m s c i = terms_text y m (map (writable s) (first_terms s c i))
 
--- from the array b and the place at, the first i terms are written
-pub record Termed (y : Style) (m : ℕ) (s : List ℕ) (t : Lent) (x b : List ℕ) (at : ℕ) (c : List ℕ) (r i : ℕ) : Type 0 where
-  pub upto : i ≤ count t
-  pub written : WritesText b at (text_of y m s t x i) c r
+-- from the value v of the array, the first i terms are written
+pub record Termed (n : ℕ) (y : Style) (m : ℕ) (s : List ℕ) (c : Content) (v w : Option (List ℕ)) (i : ℕ) : Type 0 where
+  pub written : WritesForm n v (text_of y m s c i) w
 
-module _ (y : Style) (m : ℕ) (s : List ℕ) (t : Lent) (x : List ℕ) where
-  pub no_term_yet : {b : List ℕ} {at : ℕ} → length b ≡ text_room → Termed y m s t x b at b at 0
+module _ (y : Style) (m : ℕ) (s : List ℕ) (c : Content) where
+  pub no_term_yet : {n : ℕ} {v : Option (List ℕ)} → Termed n y m s c v v 0
   unfolding terms_in terms_text
-  no_term_yet g = record { upto = omega arith; written = writes_nothing g }
+  no_term_yet = record { written = has_form refl writes_nothing }
 
-  pub no_terms : (k : Tens) (b : List ℕ) → count t ≡ 0 → HoldsText b 0 (label_text y m k (map (writable s) (terms_in s t x (count t))))
+  pub no_terms : {n : ℕ} {v : Option (List ℕ)} (k : Tens) → count c.terms ≡ 0 → WritesForm n v (label_text y m k (map (writable s) (source_terms s c))) v
   unfolding terms_in label_text
-  no_terms k b e = rw e (HoldsText.short [] refl refl (omega arith) refl)
+  no_terms k e = rw e (has_form refl writes_nothing)
 
-module _ {y : Style} {m : ℕ} {s : List ℕ} {t : Lent} {x b c : List ℕ} {at r i : ℕ} (l : Termed y m s t x b at c r i) where
-  pub next_term : {d e : List ℕ} {p q : ℕ} → i < count t → WritesText c r (some (joint_before y i)) d p
-      → WritesText d p (unit_text y m (writable s (term_in s t x i))) e q → Termed y m s t x b at e q (i + 1)
+  -- one term more
+  more_of : (i : ℕ) → text_of y m s c (i + 1) ≡ both_texts (text_of y m s c i) (both_texts (some (joint_before y i)) (unit_text y m (writable s (read_term s c i))))
   unfolding terms_in
-  next_term h v w = record {
-    upto = omega arith;
-    written = rw (
-      add-one i,
-      map_snoc s (terms_in s t x i) (term_in s t x i),
-      terms_snoc y m (map (writable s) (terms_in s t x i)) (writable s (term_in s t x i)),
-      terms_length s t x i,
-    ) (writes_then l.written (writes_then v w));
-  }
+  more_of i = rw (
+    add-one i,
+    map_snoc s (first_terms s c i) (read_term s c i),
+    terms_snoc y m (map (writable s) (first_terms s c i)) (writable s (read_term s c i)),
+    terms_length s c i,
+  )
 
-  pub all_terms : (k : Tens) {a : List ℕ} → (count t ≡ 0 → ⊥) → count t ≤ i → WritesText a 0 (factor_text y k) b at
-      → HoldsText c r (label_text y m k (map (writable s) (terms_in s t x (count t))))
-  all_terms k h g w =
-      let e : i ≡ count t = omega (arith, l.upto) in
-      rw (
-        ← e,
-        label_terms y m k (map (writable s) (terms_in s t x i)) (rw (terms_length s t x i) (omega arith)),
-        ← both_start (both_texts (factor_text y k) (text_of y m s t x i)),
-      ) ((writes_then w l.written).adds (some []) (HoldsText.short [] refl refl (omega arith) refl))
+  -- a term without a form leaves none to those after it
+  none_after : (n i j : ℕ) → i + n ≡ j → text_of y m s c i ≡ none → text_of y m s c j ≡ none
+  unfolding both_texts
+  none_after zero i j e h = let q : i ≡ j = omega arith in rw (← q) h
+  none_after (suc n) i j e h = none_after n (i + 1) j (omega arith) (more_of i ∙ rw h)
+
+  label_is : (k : Tens) → 1 ≤ count c.terms → label_text y m k (map (writable s) (source_terms s c)) ≡ both_texts (factor_text y k) (text_of y m s c (count c.terms))
+  label_is k h = label_terms y m k (map (writable s) (source_terms s c)) (rw (terms_length s c (count c.terms)) h)
+
+  -- no form for the factor, or for a term
+  pub factor_formless : (k : Tens) → 1 ≤ count c.terms → factor_text y k ≡ none → label_text y m k (map (writable s) (source_terms s c)) ≡ none
+  unfolding both_texts
+  factor_formless k h e = label_is k h ∙ rw e
+
+  pub label_formless : (k : Tens) (i : ℕ) → i < count c.terms → unit_text y m (writable s (read_term s c i)) ≡ none
+      → label_text y m k (map (writable s) (source_terms s c)) ≡ none
+  label_formless k i h e =
+      let q : text_of y m s c (i + 1) ≡ none = more_of i ∙ rw (e, both_none (some (joint_before y i)), both_none (text_of y m s c i)) in
+      label_is k (omega arith) ∙ rw (none_after (count c.terms - (i + 1)) (i + 1) (count c.terms) (omega arith) q, both_none (factor_text y k))
+
+module _ {n : ℕ} {y : Style} {m : ℕ} {s : List ℕ} {c : Content} {v w : Option (List ℕ)} {i : ℕ} (l : Termed n y m s c v w i) where
+  pub next_term : {p q : Option (List ℕ)} → Writes n w (joint_before y i) p → WritesForm n p (unit_text y m (writable s (read_term s c i))) q → Termed n y m s c v q (i + 1)
+  next_term a b = record { written = rw (more_of y m s c i) (both_forms l.written (both_forms (has_form refl a) b)) }
+
+  written_upto : (j : ℕ) → j ≡ i → WritesForm n v (text_of y m s c j) w
+  written_upto j e = rw e l.written
+
+  pub all_terms : (k : Tens) {u : Option (List ℕ)} → 1 ≤ count c.terms → count c.terms ≡ i → WritesForm n u (factor_text y k) v
+      → WritesForm n u (label_text y m k (map (writable s) (source_terms s c))) w
+  all_terms k h e a = rw (label_is y m s c k h) (both_forms a (written_upto (count c.terms) e))

@@ -4,6 +4,5 @@ pub mod LetterLaws
 pub mod PowerLaws
 pub mod NameTable
 pub mod UnitTexts
-pub mod FormLaws
 pub mod LabelTexts
 pub mod Delivering

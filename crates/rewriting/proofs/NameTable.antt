@@ -1,11 +1,14 @@
 -- The table of names: letters from keys, own names, the names of a unit as a part of the table.
-use Prim.Native.Nat.{ℕ, zero, suc, ◌+◌, ◌-◌, ◌/◌, ◌%◌, ◌≤◌, ◌<◌}
+use Prim.Native.Nat.{ℕ, zero, suc, ◌+◌, ◌-◌, ◌≤◌, ◌<◌}
 use native.Mathlib.Omega.{arith}
 use native.Mathlib.Numerals.{add-one}
 use mathlib.Core.Path.{◌≡◌, refl, sym, ap, ◌∙◌}
 use mathlib.Core.Bool.{Bool, true, false, ◌&&◌}
 use mathlib.Core.List.{List, [], ◌∷◌, ◌++◌, map, append_assoc}
-use mathlib.Core.Option.{Option, none, some}
+use mathlib.Core.Option.{Option as Maybe, none, some}
+use mathlib.Core.Logic.{◌⊎◌, inl, inr}
+use Rattle.std.specs.Prelude.{Option, Some, None, MatchOption, IfSome}
+use Rattle.std.proofs.lemmas.Bool.{cases_lt}
 use lib.Dec.{T, leb, eqb, leb→le}
 use lib.IntN.{pos}
 use lib.ListN.{length, take, drop, get_or, length-append, get_or-eq_default}
@@ -15,17 +18,16 @@ use Rattle.label.proofs.Basics.{none_some, both, T→true, same_is, and_left, al
 use Rattle.label.specs.Bytes.{same}
 use Rattle.label.specs.Choice.{pick}
 use Rattle.label.specs.Notations.{member}
-use Rattle.label.specs.Ranges.{between}
 use Rattle.label.specs.Prefixes.{Prefix, prefixes}
 use Rattle.label.specs.Units.{Name, KnownUnit, bare, ten_to, units, unit_at}
 use Rattle.label.specs.Symbols.{has_name}
 use Rattle.label.specs.Letters.{prefix_letters}
 use Rattle.label.specs.Writing.{name_among, name_in}
-use Rattle.symbols.specs.Keys.{most_letters, key_from, key_of, agrees}
+use Rattle.symbols.specs.Keys.{most_letters, key_of, agrees}
 use Rattle.symbols.specs.Sets.{has_bit}
 use Rattle.symbols.specs.Names.{Entry, entries_of, entries_from, names}
-use Rattle.symbols.specs.Columns.{name_count, unit_count, name_keys, name_codes, prefix_codes, NameColumns}
-use Rattle.symbols.specs.Views.{place}
+use Rattle.symbols.specs.Columns.{name_count, unit_count, name_keys, prefix_count, prefix_codes, NameAt}
+use Rattle.symbols.specs.declared.unit_table.Name as code
 use Rattle.symbols.proofs.Computing.{columns_compute}
 use Rattle.symbols.proofs.RowLaws.{every, every_at}
 use Rattle.symbols.proofs.KeyLaws.{long_other, other_length, SpellingKey, agrees_spelled}
@@ -91,25 +93,18 @@ own_long l size e h = record { agree = λ i. go i (name_short i) }
         other_length size 0 (length (entry i).letters) (key_of (entry i).letters) (λ q. omega arith)
         ∙ sym (long_other l (entry i).letters (omega arith) (rw (← entry_is i) (laws.letters_sound i)))
 
--- no letters
-pub own_empty : (s : List ℕ) (a e : ℕ) → e ≤ a → OwnOf (between s a e) (record { size = 0; number = 0 })
-unfolding key_from
-own_empty s a e h =
-    let q : e - a ≡ 0 = omega arith in
-    rw q (own_spelled (record { bytes = λ i. omega arith; size_is = refl; number_is = refl }))
-
-pub is_own : {ks cs l : List ℕ} {x : Own} (n i : ℕ) → NameColumns ks cs → OwnOf l x
-    → (agrees x.size x.number (get_or cs i 0 / 65536) (get_or ks i 0) && has_bit n (get_or cs i 0 / 256 % 256)) ≡ is_named n l (entry_name (entry i))
+pub is_own : {l : List ℕ} {x : Own} {y : code.Name} (n i : ℕ) → NameAt i y → OwnOf l x
+    → (agrees x.size x.number y.size y.key && has_bit n y.known_in) ≡ is_named n l (entry_name (entry i))
 is_own n i w o =
-    rw (w.keys_are, w.codes_are, laws.key_at i, laws.code_at i, (laws.code_sound i).0, (laws.code_sound i).1.0, entry_is i, o.agree i, ← entry_is i, laws.member_at i n)
+    rw (w.key_is, w.size_is, w.set_is, laws.key_at i, laws.code_at i, (laws.code_sound i).0, (laws.code_sound i).1.0, entry_is i, o.agree i, ← entry_is i, laws.member_at i n)
 
-pub is_known : {cs : List ℕ} (n i : ℕ) → cs ≡ name_codes → has_bit n (get_or cs i 0 / 256 % 256) ≡ member n (entry i).known_in
-is_known n i e = rw (e, laws.code_at i, (laws.code_sound i).1.0, ← entry_is i, laws.member_at i n)
+pub is_known : {y : code.Name} (n i : ℕ) → NameAt i y → has_bit n y.known_in ≡ member n (entry i).known_in
+is_known n i w = rw (w.set_is, laws.code_at i, (laws.code_sound i).1.0, ← entry_is i, laws.member_at i n)
 
 -- A PART OF THE TABLE
 
 -- the names from place i on, up to the place end
-abbrev from : ℕ → ℕ → List Name
+abbrev pub from : ℕ → ℕ → List Name
 from i end = names_in (record { first = i; end = end })
 
 no_names : (i end : ℕ) → end ≤ i → from i end ≡ []
@@ -127,31 +122,32 @@ next_name i end h g =
 letters_own : (n i : ℕ) (l : List ℕ) → is_named n l (entry_name (entry i)) ≡ true → some (entry i).letters ≡ some l
 letters_own n i l e = ap (λ (s : List ℕ). some s) (sym (same_is l (entry i).letters (and_left (same l (entry i).letters) _ e)))
 
--- what a search answers for the names of x it also answers for those from place i on
-pub record Looking (answer : List Name → Option (List ℕ)) (x : NameRange) (i : ℕ) : Type 0 where
-  pub rest : answer (from i x.end) ≡ answer (names_in x)
+-- a search for the first place of x that meets Yes, none before it, finds the name that is the answer for the names of x
+module _ (answer : List Name → Maybe (List ℕ)) (x : NameRange) (g : InTable x) (Yes No : ℕ → Type 0)
+    (stop : (i : ℕ) (ys : List Name) → Yes i → answer (entry_name (entry i) ∷ ys) ≡ some (entry i).letters)
+    (skip : (i : ℕ) (ys : List Name) → No i → answer (entry_name (entry i) ∷ ys) ≡ answer ys) (nothing : answer [] ≡ none) where
+  skipped : (n i j : ℕ) → i + n ≡ j → j ≤ x.end → ((k : ℕ) → i ≤ k → k < j → No k) → answer (from i x.end) ≡ answer (from j x.end)
+  skipped zero i j e h f = let q : i ≡ j = omega arith in rw q
+  skipped (suc n) i j e h f =
+      ap answer (next_name i x.end (omega arith) g.within) ∙ skip i (from (i + 1) x.end) (f i (omega arith) (omega arith))
+      ∙ skipped n (i + 1) j (omega arith) h (λ k a b. f k (omega arith) b)
 
-module _ (answer : List Name → Option (List ℕ)) (x : NameRange) where
-  pub look_start : Looking answer x x.first
-  look_start = record { rest = refl }
-
-  pub look_end : (i : ℕ) → answer [] ≡ none → x.end ≤ i → Looking answer x i → name_at 0 ≡ answer (names_in x)
+  pub first_place : (r : Option ℕ) → MatchOption r ((k : ℕ) → x.first ≤ k → k < x.end → No k) (λ i. (x.first ≤ i) × (i < x.end) × Yes i × ((k : ℕ) → x.first ≤ k → k < i → No k))
+      → (name_at r ≡ answer (names_in x)) × IfSome r (λ i. i < name_count)
   unfolding name_at
-  look_end i e h w = sym e ∙ sym (ap answer (no_names i x.end h)) ∙ w.rest
-
-  module _ (i : ℕ) (h : i < x.end) (g : InTable x) (w : Looking answer x i) where
-    ahead : answer (entry_name (entry i) ∷ from (i + 1) x.end) ≡ answer (names_in x)
-    ahead = sym (ap answer (next_name i x.end h g.within)) ∙ w.rest
-
-    pub look_hit : answer (entry_name (entry i) ∷ from (i + 1) x.end) ≡ some (entry i).letters → name_at (i + 1) ≡ answer (names_in x)
-    unfolding name_at
-    look_hit e = rw (add-one i) (sym e ∙ ahead)
-
-    pub look_miss : answer (entry_name (entry i) ∷ from (i + 1) x.end) ≡ answer (from (i + 1) x.end) → Looking answer x (i + 1)
-    look_miss e = record { rest = sym e ∙ ahead }
+  first_place None f = (sym nothing ∙ sym (ap answer (no_names x.end x.end (omega arith))) ∙ go (cases_lt x.end x.first), tt)
+    where
+      go : (x.end < x.first) ⊎ (x.first ≤ x.end) → answer (from x.end x.end) ≡ answer (names_in x)
+      go (inr h) = sym (skipped (x.end - x.first) x.first x.end (omega arith) (omega arith) f)
+      go (inl h) = ap answer (no_names x.end x.end (omega arith)) ∙ sym (ap answer (no_names x.first x.end (omega arith)))
+  first_place (Some i) f = (
+    sym (stop i (from (i + 1) x.end) f.2) ∙ sym (ap answer (next_name i x.end f.1 g.within))
+        ∙ sym (skipped (i - x.first) x.first i (omega arith) (omega arith) f.3),
+    omega (arith, g.within),
+  )
 
 -- its own name
-abbrev pub own_answer : ℕ → List ℕ → List Name → Option (List ℕ)
+abbrev pub own_answer : ℕ → List ℕ → List Name → Maybe (List ℕ)
 own_answer n l xs = pick (has_name n l xs) (some l) none
 
 module _ (n : ℕ) (l : List ℕ) (i : ℕ) (ys : List Name) where
@@ -182,25 +178,20 @@ unfolding name_among
 among_none n = refl
 
 module _ (n : ℕ) (l : List ℕ) (xs : List Name) where
-  -- its own name, where there is a place
-  pub takes_own : (r : ℕ) → 0 < r → name_at r ≡ pick (has_name n l xs) (some l) none → name_at r ≡ name_in n l xs
+  -- its own name, where there is one, or else another
+  pub takes : {P : Type 0} (r q : Option ℕ) → name_at r ≡ pick (has_name n l xs) (some l) none → MatchOption r P (λ i. q ≡ Some i)
+      → (P → name_at q ≡ name_among n xs) → name_at q ≡ name_in n l xs
   unfolding name_in name_at
-  takes_own zero h p = absurd (omega arith)
-  takes_own (suc i) h p = go (has_name n l xs) p
+  takes None q p m f = go (has_name n l xs) p
+    where
+      go : (b : Bool) → none ≡ pick b (some l) none → name_at q ≡ pick b (some l) (name_among n xs)
+      go true e = absurd (none_some e)
+      go false e = f m
+  takes (Some i) q p m f = rw m (go (has_name n l xs) p)
     where
       go : (b : Bool) → some (entry i).letters ≡ pick b (some l) none → some (entry i).letters ≡ pick b (some l) (name_among n xs)
       go true e = e
       go false e = absurd (none_some (sym e))
-
-  -- or else another
-  pub takes_other : (r q : ℕ) → r ≤ 0 → name_at r ≡ pick (has_name n l xs) (some l) none → name_at q ≡ name_among n xs → name_at q ≡ name_in n l xs
-  unfolding name_in name_at
-  takes_other zero q h p e = go (has_name n l xs) p
-    where
-      go : (b : Bool) → none ≡ pick b (some l) none → name_at q ≡ pick b (some l) (name_among n xs)
-      go true f = absurd (none_some f)
-      go false f = e
-  takes_other (suc r) q h p e = absurd (omega arith)
 
 -- THE NAMES OF A UNIT
 
@@ -298,6 +289,10 @@ nothing_spelt : T (prefix_spelt prefix_laws.nothing)
 unfolding prefix_spelt spells letters_of prefix_laws.nothing columns_compute
 nothing_spelt = tt
 
+codes_count : length prefix_codes ≡ prefix_count
+unfolding columns_compute
+codes_count = refl
+
 module _ (i : ℕ) where
   here_spelt : T (spells most_in_prefix (prefix_laws.entry i).name)
   unfolding prefix_spelt prefix_laws.entry
@@ -307,23 +302,18 @@ module _ (i : ℕ) where
   unfolding prefix_laws.entry prefix_laws.nothing columns_compute
   letters_are = refl
 
-  code_of : PrefixCode (suc i) (get_or prefix_codes i 0)
-  unfolding place
-  code_of = rw (prefix_laws.code_at i) (record {
+  -- the code in the column
+  pub prefix_coded : PrefixCode (Some i) (get_or prefix_codes i 0)
+  prefix_coded = rw (prefix_laws.code_at i) (record {
     size = prefix_laws.code_length i ∙ ap length (sym letters_are);
     letters = rw (prefix_laws.code_key i) (spelled_back most_in_prefix _ here_spelt ∙ sym letters_are);
     few = rw (prefix_laws.code_length i) (spelled_short most_in_prefix _ here_spelt);
   })
 
--- the code in the column
-pub prefix_coded : (p : ℕ) → (p ≡ 0 → ⊥) → {cs : List ℕ} → cs ≡ prefix_codes → PrefixCode p (get_or cs (p - 1) 0)
-prefix_coded zero h e = absurd (h refl)
-prefix_coded (suc i) h e = let q : suc i - 1 ≡ i = omega arith in rw (e, q) (code_of i)
-
 -- past the end of the column
-pub prefix_uncoded : (p : ℕ) → (p ≡ 0 → ⊥) → {cs : List ℕ} → cs ≡ prefix_codes → length cs ≤ p - 1 → PrefixCode p 0
-prefix_uncoded p h {cs} e g = rw (get_or-eq_default cs 0 {n = p - 1} g) at (prefix_coded p h e)
+pub prefix_uncoded : (i : ℕ) → prefix_count ≤ i → PrefixCode (Some i) 0
+prefix_uncoded i h = rw (get_or-eq_default prefix_codes 0 {n = i} (rw codes_count h)) at (prefix_coded i)
 
-pub no_prefix : (p : ℕ) → p ≡ 0 → PrefixCode p 0
-unfolding letters_of place
-no_prefix p e = rw e (record { size = refl; letters = refl; few = omega arith })
+pub no_prefix : PrefixCode None 0
+unfolding letters_of
+no_prefix = record { size = refl; letters = refl; few = omega arith }

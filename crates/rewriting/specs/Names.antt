@@ -1,6 +1,6 @@
 -- The names of a unit as a part of the table of names.
-use Rattle.std.specs.Prelude.{ℕ, zero, suc, ◌+◌, ◌-◌, ◌≤◌, ◌≡◌, Bool, ◌&&◌, List, [], ◌∷◌, map, length, take, drop, get_or}
-use Rattle.std.proofs.Math.Option.{Option, none, some}
+use Rattle.std.specs.Prelude.{ℕ, ◌+◌, ◌-◌, ◌≤◌, ◌≡◌, Bool, ◌&&◌, List, [], ◌∷◌, map, length, take, drop, get_or, Option, Some, None}
+use Rattle.std.proofs.Math.Option.{Option as Maybe, none, some}
 use Rattle.label.specs.Bytes.{same}
 use Rattle.label.specs.Notations.{member}
 use Rattle.label.specs.Units.{Name, KnownUnit, units, unit_at}
@@ -25,10 +25,10 @@ entry_name x = record { letters = x.letters; known_in = x.known_in }
 unfoldable pub names_in : NameRange → List Name
 names_in x = map entry_name (take (x.end - x.first) (drop x.first names))
 
--- the letters of a name by its place, counted from 1; 0 is no name
-unfoldable pub name_at : ℕ → Option (List ℕ)
-name_at zero = none
-name_at (suc i) = some (entry i).letters
+-- the letters of a name by its place, if there is one
+unfoldable pub name_at : Option ℕ → Maybe (List ℕ)
+name_at None = none
+name_at (Some i) = some (entry i).letters
 
 -- where each unit's names start, the table having i names before them, and where the last unit's names end
 unfoldable pub places_from : ℕ → List KnownUnit → List ℕ

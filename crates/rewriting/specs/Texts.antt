@@ -1,26 +1,25 @@
 -- A text that is written piece by piece into an array.
-use Rattle.std.specs.Prelude.{ℕ, ◌+◌, ◌≤◌, ◌<◌, ◌≡◌, List, length, take}
-use Rattle.std.proofs.Math.Option.{Option, none, some}
-use Rattle.label.specs.Writing.{both_texts}
+use Rattle.std.specs.Prelude.{ℕ, ◌≡◌, true, false, leb, List, ◌++◌, length, Option, Some, None, MatchOption}
+use Rattle.std.proofs.Math.Option.{Option as Maybe, some, none}
 
--- how many bytes the array has: a spelling of 255 letters with a prefix and quotes fits
+-- how many bytes the array of a spelling has: 255 letters with a prefix and quotes fit
 abbrev pub text_room : ℕ
 text_room = 260
 
--- how far a text has come that is longer than the array, and one that has no form
-abbrev pub too_long : ℕ
-too_long = text_room + 1
+-- what an array of n bytes keeps of the text x: the whole, or nothing where x is longer
+unfoldable pub held : ℕ → List ℕ → Option (List ℕ)
+held n x = elim (leb (length x) n) [ true ↦ Some x | false ↦ None ]
 
-abbrev pub formless : ℕ
-formless = text_room + 2
+-- from the value v to w of an array of n bytes, the text s is written after what was there
+pub record Writes (n : ℕ) (v : Option (List ℕ)) (s : List ℕ) (w : Option (List ℕ)) : Type 0 where
+  pub adds : (x : List ℕ) → v ≡ held n x → w ≡ held n (x ++ s)
 
--- the text o has come to the place at in the array b
-pub data HoldsText (b : List ℕ) (at : ℕ) (o : Option (List ℕ)) : Type 0 where
-  short : (s : List ℕ) → o ≡ some s → length s ≡ at → at ≤ text_room → take at b ≡ s → HoldsText b at o
-  long : (s : List ℕ) → o ≡ some s → text_room < length s → at ≡ too_long → HoldsText b at o
-  nothing : o ≡ none → at ≡ formless → HoldsText b at o
+-- the same of a text o that has a form
+pub record WritesForm (n : ℕ) (v : Option (List ℕ)) (o : Maybe (List ℕ)) (w : Option (List ℕ)) : Type 0 where
+  pub text : List ℕ
+  pub form : o ≡ some text
+  pub writes : Writes n v text w
 
--- from the array b to c, and from the place at to r, the text o is written after what was there
-pub record WritesText (b : List ℕ) (at : ℕ) (o : Option (List ℕ)) (c : List ℕ) (r : ℕ) : Type 0 where
-  pub kept : length c ≡ text_room
-  pub adds : (x : Option (List ℕ)) → HoldsText b at x → HoldsText c r (both_texts x o)
+-- o is written, or it has no form and nothing is answered
+abbrev pub WritesText : {A : Type 0} → ℕ → Option (List ℕ) → Maybe (List ℕ) → Option A → Option (List ℕ) → Type 0
+WritesText n v o r w = MatchOption r (o ≡ none) (λ _. WritesForm n v o w)

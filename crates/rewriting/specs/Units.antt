@@ -1,83 +1,67 @@
 -- Units of a label, and the forms that they take.
-use Rattle.std.specs.Prelude.{ℕ, ◌/◌, ◌%◌, ◌≤◌, ◌<◌, ◌≡◌, true, false, List, length}
-use Rattle.std.proofs.Math.Option.{Option, some}
-use Rattle.label.specs.Choice.{pick}
-use Rattle.label.specs.Ranges.{between}
-use Rattle.label.specs.Limits.{most_bytes, most_terms}
+use Rattle.std.specs.Prelude.{ℕ, ◌/◌, ◌%◌, ◌≤◌, ◌≡◌, List, length, Option, IfSome}
+use Rattle.std.proofs.Math.Option.{Option as Maybe, some}
+use Rattle.label.specs.Options.{told}
 use Rattle.label.specs.Units.{unit_at}
 use Rattle.label.specs.Letters.{prefix_letters}
-use Rattle.label.specs.Writing.{name_in, both_texts, own_letters}
+use Rattle.label.specs.Writing.{name_in, both_texts}
 use Rattle.symbols.specs.declared.SymbolAt.{SymbolAt}
-use Rattle.symbols.specs.Views.{place, symbol_in}
-use Rattle.descent.specs.Terms.{start_at, end_at, count_in}
-use Rattle.content.specs.Views.{symbol_at, unit_in, letters_at, letters_end}
+use Rattle.symbols.specs.declared.UnitAt.{UnitAt}
+use Rattle.symbols.specs.declared.UnitAt.TheVariants as unit
+use Rattle.symbols.specs.Views.{span_letters}
+use Rattle.rewriting.specs.declared.form.NameForm.{NameForm}
+use Rattle.rewriting.specs.declared.form.NameForm.TheVariants.{Known, Plain, Quoted}
 use Rattle.rewriting.specs.declared.form.UnitForm.{UnitForm}
+use Rattle.rewriting.specs.declared.name.Own.{Own}
 use Rattle.rewriting.specs.declared.unit.SourceTerm.{SourceTerm}
 use Rattle.rewriting.specs.Letters.{letters_of, most_in_prefix}
 use Rattle.rewriting.specs.Names.{OwnOf}
-use Rattle.rewriting.specs.Forms.{form_text}
+use Rattle.rewriting.specs.Forms.{written_form, SpanInside}
 
 -- the code of a prefix: how many letters it has, and below that their key
-pub record PrefixCode (prefix code : ℕ) : Type 0 where
-  pub size : code / 65536 ≡ length (prefix_letters (place prefix))
-  pub letters : letters_of most_in_prefix (code % 65536) ≡ prefix_letters (place prefix)
+pub record PrefixCode (prefix : Option ℕ) (code : ℕ) : Type 0 where
+  pub size : code / 65536 ≡ length (prefix_letters (told prefix))
+  pub letters : letters_of most_in_prefix (code % 65536) ≡ prefix_letters (told prefix)
   pub few : code / 65536 ≤ 2
 
--- the letters of an unknown unit lie in the label s
+-- the letters of a unit, if it is unknown, lie in the label s
+abbrev pub UnitInside : List ℕ → UnitAt → Type 0
+UnitInside s (unit.Known u) = Unit {0}
+UnitInside s (unit.Unknown l) = SpanInside s l
+
+-- so do those of a symbol's unit
 pub record LettersInside (s : List ℕ) (x : SymbolAt) : Type 0 where
-  pub forward : x.known ≡ false → x.start ≤ x.end
-  pub within : x.known ≡ false → x.end ≤ length s
+  pub inside : UnitInside s x.unit
 
--- the letters own are those of the name that a term's known unit has in the source
+-- the letters own are those of the name that a known unit has in the source
+abbrev pub OwnsName : List ℕ → Own → UnitAt → Type 0
+OwnsName own o (unit.Known u) = OwnOf own o
+OwnsName own o (unit.Unknown l) = Unit {0}
+
+-- so they are of a term's unit
 pub record Owns (own : List ℕ) (r : SourceTerm) : Type 0 where
-  pub owns : r.unit.known ≡ true → OwnOf own r.own
+  pub owns : OwnsName own r.own r.unit.unit
 
--- a unit of the label s without quotes in notation m: its prefix, and the name that it takes there, or the letters of an unknown unit
-unfoldable pub plain_text : ℕ → List ℕ → List ℕ → SymbolAt → Option (List ℕ)
-plain_text m own s x =
-    both_texts (some (prefix_letters (place x.prefix))) (pick x.known (name_in m own (unit_at x.unit).names) (some (between s x.start x.end)))
+-- what a unit of the label s has after its prefix without quotes in notation m: the name that it takes there, or the letters of an unknown unit
+abbrev pub plain_name : ℕ → List ℕ → List ℕ → UnitAt → Maybe (List ℕ)
+plain_name m own s (unit.Known u) = name_in m own (unit_at u).names
+plain_name m own s (unit.Unknown l) = some (span_letters s l)
 
--- f has the prefix and the letters of the unknown unit x
-pub record LetteredForm (x : SymbolAt) (f : UnitForm) : Type 0 where
-  pub prefix : letters_of most_in_prefix f.prefix ≡ prefix_letters (place x.prefix)
-  pub name : f.name ≡ 0
-  pub start : f.start ≡ x.start
-  pub end : f.end ≡ x.end
+-- and with its prefix
+unfoldable pub plain_text : ℕ → List ℕ → List ℕ → SymbolAt → Maybe (List ℕ)
+plain_text m own s x = both_texts (some (prefix_letters (told x.prefix))) (plain_name m own s x.unit)
+
+-- what the form f has of a unit without quotes: the name of a known unit, or the letters of an unknown one
+abbrev pub PlainName : UnitAt → NameForm → Type 0
+PlainName (unit.Known u) (Known key) = Unit {0}
+PlainName (unit.Known u) (Plain p) = ⊥
+PlainName (unit.Known u) (Quoted p) = ⊥
+PlainName (unit.Unknown l) (Known key) = ⊥
+PlainName (unit.Unknown l) (Plain p) = p ≡ l
+PlainName (unit.Unknown l) (Quoted p) = ⊥
 
 -- f is the form of a term's unit without quotes in notation m
-pub record PlainOf (m : ℕ) (r : SourceTerm) (f : UnitForm) : Type 0 where
-  pub text : (own : List ℕ) → Owns own r → (s : List ℕ) → form_text s f ≡ plain_text m own s r.unit
-  pub kind : f.kind ≤ 1
-  pub known : r.unit.known ≡ true → (f.start ≡ 0) × (f.end ≡ 0)
-  pub unknown : r.unit.known ≡ false → LetteredForm r.unit f
-
--- what the array x of names has of the spelling of term i
-pub record SymbolFrom (x : List ℕ) (i : ℕ) (r : SymbolAt) : Type 0 where
-  pub is : (s : List ℕ) → symbol_in s r ≡ symbol_at s x i
-  pub unknown : r.known ≡ false → unit_in x i ≡ 0
-  pub start : r.start ≡ letters_at x i
-  pub end : r.end ≡ letters_end x i
-
--- term i of a label of at most 255 bytes: its spelling lies in the label, and so do the letters of an unknown unit
-pub record TermOf (s p x : List ℕ) (i : ℕ) : Type 0 where
-  pub short : length s ≤ most_bytes
-  pub few : i < most_terms
-  pub forward : start_at p i ≤ end_at p i
-  pub within : end_at p i ≤ length s
-  pub from : unit_in x i ≡ 0 → letters_at x i ≤ letters_end x i
-  pub upto : unit_in x i ≡ 0 → letters_end x i ≤ length s
-
--- every term of a label
-pub record AllTerms (s p x : List ℕ) : Type 0 where
-  pub few : count_in p ≤ most_terms
-  pub terms : (i : ℕ) → i < count_in p → TermOf s p x i
-
--- the letters of the name of term i
-abbrev pub own_at : List ℕ → List ℕ → List ℕ → ℕ → List ℕ
-own_at s p x i = own_letters (symbol_at s x i) (between s (start_at p i) (end_at p i))
-
--- r is term i of the label s
-pub record TermIs (s p x : List ℕ) (i : ℕ) (r : SourceTerm) : Type 0 where
-  pub unit : symbol_in s r.unit ≡ symbol_at s x i
-  pub lettered : LettersInside s r.unit
-  pub own : Owns (own_at s p x i) r
+pub record PlainOf (m : ℕ) (r : SourceTerm) (f : Option UnitForm) : Type 0 where
+  pub text : (own : List ℕ) → Owns own r → (s : List ℕ) → written_form s f ≡ plain_text m own s r.unit
+  pub name : IfSome f (λ g. PlainName r.unit.unit g.name)
+  pub prefix : IfSome f (λ g. letters_of most_in_prefix g.prefix ≡ prefix_letters (told r.unit.prefix))

@@ -1,52 +1,37 @@
 // The factor as it is written.
-ghost use Rattle.std.specs.Prelude.{◌≡◌, length};
-ghost use Rattle.std.proofs.Math.Option.{some};
 ghost use Rattle.label.specs.Bytes.{bytes};
 ghost use Rattle.label.specs.Choice.{pick};
 ghost use Rattle.label.specs.Writing.{factor_text};
 ghost use Rattle.notations.specs.Styles.{style_in};
-ghost use Rattle.rewriting.specs.Texts.{text_room, WritesText};
+ghost use Rattle.rewriting.specs.Texts.{Writes, WritesText};
 
-use crate::figures::{MOST_FIGURES, is_negative, magnitude, push_figures, push_sign};
-use crate::text::{FORMLESS, ROOM, push, push_stars};
+use crate::figures::{MOST_FIGURES, push_figures, push_sign};
+use crate::text::Text;
 use label::Tens;
 use notations::rows::Style;
 
-// Writes a space, or nothing.
-fn push_gap(text: &mut [u8; ROOM], at: usize, gap: bool) -> usize
-    requires { length text.old ≡ text_room }
-    ensures { WritesText text.old at (some (pick gap (bytes " ") (bytes ""))) text.new result }
-{
-    if gap {
-        return push(text, at, b' ');
-    }
-    at
-}
-
 // Writes 10, and two stars where k follows them.
-fn push_ten(text: &mut [u8; ROOM], at: usize, stars: bool) -> usize
-    requires { length text.old ≡ text_room }
-    ensures { WritesText text.old at (some (pick stars (bytes "10**") (bytes "10"))) text.new result }
+fn push_ten<const N: usize>(text: &mut Text<N>, stars: bool)
+    ensures { Writes N text.old (pick stars (bytes "10**") (bytes "10")) text.new }
 {
-    let second = push(text, at, b'1');
-    let third = push(text, second, b'0');
-    push_stars(text, third, stars)
+    text.append(b"10");
+    text.append_if(stars, b"**");
 }
 
 // Writes ten to the k, or nothing where k is 0. Another k may have no form.
-pub fn push_factor(text: &mut [u8; ROOM], at: usize, style: Style, k: Tens) -> usize
-    requires { length text.old ≡ text_room }
-    ensures { WritesText text.old at (factor_text (style_in style) k) text.new result }
+pub fn push_factor<const N: usize>(text: &mut Text<N>, style: Style, k: Tens) -> Option<()>
+    ensures { WritesText N text.old (factor_text (style_in style) k) result text.new }
 {
-    let size = magnitude(k.0);
+    let size = u64::from(k.0.unsigned_abs());
     if size == 0 {
-        return at;
+        return Some(());
     }
     if !style.factors {
-        return FORMLESS;
+        return None;
     }
-    let sign = push_ten(text, at, style.ten_stars);
-    let digits = push_sign(text, sign, style.signed, is_negative(k.0));
-    let gap = push_figures(text, digits, MOST_FIGURES, size);
-    push_gap(text, gap, style.gap)
+    push_ten(text, style.ten_stars);
+    push_sign(text, style.signed, k.0 < 0);
+    push_figures(text, MOST_FIGURES, size);
+    text.append_if(style.gap, b" ");
+    Some(())
 }

@@ -1,21 +1,17 @@
 // What rewriting a label answers, and what the lent buffer holds then.
-ghost use Rattle.std.specs.Prelude.{◌≡◌, List, ℕ, length};
-ghost use Rattle.std.proofs.Math.Option.{Option};
-ghost use Rattle.label.specs.Writing.{sized};
-ghost use Rattle.label.specs.Writing.{fitted, rewriting_into, buffer_with};
-ghost use Rattle.rewriting.specs.Texts.{text_room, HoldsText};
-ghost use Rattle.rewriting.specs.Buffers.{AnswerIs};
+ghost use Rattle.std.specs.Prelude.{◌≡◌, ◌<◌, ◌^◌, map, length};
+ghost use Rattle.label.specs.Writing.{writable, written, unless, sized, rewriting, rewriting_into, buffer_with};
+ghost use Rattle.label.specs.Notations.{notation};
+ghost use Rattle.rewriting.specs.Sources.{AllTerms, source_terms};
+ghost use Rattle.rewriting.specs.Buffers.{AnswerIs, Delivers, answer_of, accepted};
 
 use crate::label_text::{Target, push_label};
-use crate::text::{FORMLESS, ROOM};
-use content::named::NAME_PLACES;
-use content::sums::SUMS;
-use descent::terms::PLACES;
-use label::{MOST_BYTES, MOST_TERMS};
+use crate::text::Text;
+use label::{MOST_BYTES, Refusal, Tens};
 use notations::rows::{is_notation, style_of};
-use reading::read::read;
+use reading::read::{Content, read};
 
-// The number of the refusal, or 0 and how many bytes the result has.
+// The number of the refusal, or 0 and how many bytes the result has. It is no `Result`: the exported calls answer this struct.
 #[repr(C)]
 #[derive(Clone, Copy)]
 pub struct Rewritten {
@@ -23,36 +19,54 @@ pub struct Rewritten {
     pub length: u32,
 }
 
-// Copies a result that was written into the lent buffer, where it has a form and is not too long for a label or the buffer.
-fn deliver(text: &[u8], end: usize, buffer: &mut [u8]) -> Rewritten
-    requires { length text.now ≡ text_room }
-    ensures by_index { (o : Option (List ℕ)) → HoldsText text.now end o → AnswerIs (fitted (length buffer.old) (sized o)) result }
-    ensures by_index_2 { (o : Option (List ℕ)) → HoldsText text.now end o
-        → buffer.new ≡ buffer_with (fitted (length buffer.old) (sized o)) buffer.old }
+impl From<Result<u32, Refusal>> for Rewritten {
+    ghost from_gives = { λ answer given. given ≡ answer_of answer };
+
+    fn from(answer: Result<u32, Refusal>) -> Rewritten {
+        match answer {
+            Ok(length) => Rewritten { number: 0, length },
+            Err(refusal) => Rewritten {
+                number: u32::from(refusal.number()),
+                length: 0,
+            },
+        }
+    }
+}
+
+// Copies a result into the lent buffer, where it is not too long for it, and answers how many bytes it has.
+pub fn deliver(text: &[u8], buffer: &mut [u8]) -> Result<u32, Refusal>
+    requires { length text.now < 2 ^ 32 }
+    ensures { Delivers (accepted text.now) buffer.old result buffer.new }
 {
-    if end == FORMLESS {
-        return Rewritten {
-            number: 12,
-            length: 0,
-        };
+    if buffer.len() < text.len() {
+        return Err(Refusal::ShortBuffer);
     }
-    if MOST_BYTES < end {
-        return Rewritten {
-            number: 13,
-            length: 0,
-        };
+    Ok(slices::copy(text, buffer) as u32)
+}
+
+// Writes what was read of the label `s` in notation `m` into the lent buffer.
+fn write(m: u32, k: Tens, s: &[u8], content: &Content, buffer: &mut [u8]) -> Result<u32, Refusal>
+    requires { AllTerms s.now content.now }
+    ensures { Delivers (unless (notation m) 1 (sized (written m k (map (writable s.now) (source_terms s.now content.now)))))
+        buffer.old result buffer.new }
+{
+    if !is_notation(m) {
+        return Err(Refusal::NoNotation);
     }
-    if buffer.len() < end {
-        return Rewritten {
-            number: 14,
-            length: 0,
-        };
-    }
-    slices::copy(&text[0..end], buffer);
-    Rewritten {
-        number: 0,
-        length: end as u32,
-    }
+    let style = style_of(m as u8);
+    let target = Target { style, k };
+    let mut text = Text::<MOST_BYTES>::new();
+    push_label(&mut text, target, s, content).ok_or(Refusal::NoForm)?;
+    deliver(text.written().ok_or(Refusal::LongResult)?, buffer)
+}
+
+// Reads the label `s` of notation `n`, and writes it in notation `m` into the lent buffer.
+fn read_and_write(n: u32, s: &[u8], m: u32, buffer: &mut [u8]) -> Result<u32, Refusal>
+    ensures { Delivers (rewriting n s.now m) buffer.old result buffer.new }
+{
+    let mut content = Content::none();
+    let answer = read(n, s, &mut content)?;
+    write(m, answer.k, s, &content, buffer)
 }
 
 // Rewrites the label `s` of notation `n` in notation `m`, for any numbers, bytes and buffer.
@@ -60,27 +74,5 @@ pub fn rewrite(n: u32, s: &[u8], m: u32, buffer: &mut [u8]) -> Rewritten
     ensures answer_is { AnswerIs (rewriting_into (length buffer.old) n s.now m) result }
     ensures buffer_after { buffer.new ≡ buffer_with (rewriting_into (length buffer.old) n s.now m) buffer.old }
 {
-    let mut places: [usize; PLACES] = [0; PLACES];
-    let mut exponents: [i32; MOST_TERMS] = [0; MOST_TERMS];
-    let mut names: [u8; NAME_PLACES] = [0; NAME_PLACES];
-    let mut sums: [i64; SUMS] = [0; SUMS];
-    let a = read(n, s, &mut places, &mut exponents, &mut names, &mut sums);
-    if a.number != 0 {
-        return Rewritten {
-            number: a.number as u32,
-            length: 0,
-        };
-    }
-    if !is_notation(m) {
-        return Rewritten {
-            number: 1,
-            length: 0,
-        };
-    }
-    let style = style_of(m as u8);
-    let k = a.k;
-    let target = Target { style, k };
-    let mut text: [u8; ROOM] = [0; ROOM];
-    let end = push_label(&mut text, target, s, &places, &exponents, &names);
-    deliver(&text, end, buffer)
+    Rewritten::from(read_and_write(n, s, m, buffer))
 }

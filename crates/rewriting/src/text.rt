@@ -1,57 +1,79 @@
-// A text that is written piece by piece into an array, and how far it has come: the count of its bytes, TOO_LONG once it is longer than the
-// array, and FORMLESS once a piece has no form.
-ghost use Rattle.std.specs.Prelude.{◌≤◌, ◌≡◌, [], ◌∷◌, length};
-ghost use Rattle.std.proofs.Math.Option.{some};
-ghost use Rattle.label.specs.Bytes.{bytes};
+// A text that is written piece by piece into an array.
+ghost use Rattle.std.specs.Prelude.{[], ◌∷◌, ◌≡◌, Some, None, MatchOption};
 ghost use Rattle.label.specs.Choice.{pick};
-ghost use Rattle.label.specs.Ranges.{between};
-ghost use Rattle.rewriting.specs.Texts.{text_room, WritesText};
+ghost use Rattle.rewriting.specs.Texts.{Writes};
+
+use std::marker::Model;
 
 // A spelling of 255 letters with a prefix and quotes fits.
 pub const ROOM: usize = 260;
 
-pub const TOO_LONG: usize = ROOM + 1;
-
-pub const FORMLESS: usize = ROOM + 2;
-
-// Writes a byte.
-pub fn push(text: &mut [u8; ROOM], at: usize, byte: u8) -> usize
-    requires { length text.old ≡ text_room }
-    ensures { WritesText text.old at (some (byte ∷ [])) text.new result }
-{
-    if at < ROOM {
-        text[at] = byte;
-        return at + 1;
-    }
-    if at == ROOM {
-        return TOO_LONG;
-    }
-    at
+// A text in an array of `N` bytes. A longer one is not kept.
+#[derive(Drop)]
+pub struct Text<const N: usize> {
+    bytes: [u8; N],
+    // How many of the bytes are written, where the text is no longer than the array.
+    length: Option<usize>,
 }
 
-// Writes the bytes of `s` from `start` up to `end`.
-pub fn append(text: &mut [u8; ROOM], at: usize, s: &[u8], start: usize, end: usize) -> usize
-    requires text_len { length text.old ≡ text_room }
-    requires start_le_end { (start ≤ end) × (end ≤ length s.now) }
-    ensures { WritesText text.old at (some (between s.now start end)) text.new result }
-{
-    let mut place = at;
-    let mut i = start;
-    while i < end {
-        place = push(text, place, s[i]);
-        i += 1;
-    }
-    place
+impl<const N: usize> Model for Text<N> {
+    ghost use Rattle.std.specs.Prelude.{ℕ, ◌≤◌, List, take, Option, IfSome};
+    ghost use Rattle.std.specs.Option.{option_map};
+
+    ghost Value = { Option (List ℕ) };
+
+    ghost view = { λ t. option_map (λ n. take n t.bytes) t.length };
+
+    ghost invariant = { λ t. IfSome t.length (λ n. n ≤ N) };
 }
 
-// Writes two stars, or nothing.
-pub fn push_stars(text: &mut [u8; ROOM], at: usize, stars: bool) -> usize
-    requires { length text.old ≡ text_room }
-    ensures { WritesText text.old at (some (pick stars (bytes "**") (bytes ""))) text.new result }
-{
-    if stars {
-        let second = push(text, at, b'*');
-        return push(text, second, b'*');
+impl<const N: usize> Text<N> {
+    // An empty text.
+    pub fn new() -> Self
+        ensures { result ≡ Some [] }
+    {
+        Text {
+            bytes: [0; N],
+            length: Some(0),
+        }
     }
-    at
+
+    // Writes a byte.
+    pub fn push(&mut self, byte: u8)
+        ensures { Writes N self.old (byte ∷ []) self.new }
+    {
+        self.length = match self.length {
+            Some(length) if length < N => {
+                self.bytes[length] = byte;
+                Some(length + 1)
+            }
+            _ => None,
+        };
+    }
+
+    // Writes the bytes of `s`.
+    pub fn append(&mut self, s: &[u8])
+        ensures { Writes N self.old s.now self.new }
+    {
+        for byte in s {
+            self.push(*byte);
+        }
+    }
+
+    // Writes the bytes of `s` where they are wanted.
+    pub fn append_if(&mut self, wanted: bool, s: &[u8])
+        ensures { Writes N self.old (pick wanted s.now []) self.new }
+    {
+        if wanted {
+            self.append(s);
+        }
+    }
+
+    // What is written, where it is no longer than the array.
+    pub fn written(&self) -> Option<&[u8]>
+        ensures { MatchOption result (self.now ≡ None) (λ s. self.now ≡ Some s.now) }
+    {
+        let length = self.length?;
+        Some(&self.bytes[..length])
+    }
 }

@@ -1,21 +1,21 @@
 // The form that a unit takes in the target.
-ghost use Rattle.std.specs.Prelude.{ℕ, ◌≤◌, ◌≡◌, List, length};
+ghost use Rattle.std.specs.Prelude.{ℕ, ◌≤◌, ◌≡◌, List, IfSome, length};
 ghost use Rattle.label.specs.Limits.{most_bytes};
 ghost use Rattle.label.specs.Writing.{same_symbol, symbol_text};
-ghost use Rattle.symbols.specs.Columns.{prefix_codes, NameColumns};
 ghost use Rattle.symbols.specs.Views.{symbol_in};
 ghost use Rattle.notations.specs.Styles.{style_in};
-ghost use Rattle.rewriting.specs.Forms.{form_text, FormIn, no_form};
+ghost use Rattle.rewriting.specs.Forms.{written_form, NameInside};
 ghost use Rattle.rewriting.specs.Units.{PrefixCode, LettersInside, Owns, PlainOf};
 
-use crate::form::{NO_FORM, PLAIN, QUOTED, UnitForm, push_form};
-use crate::letters::same_letters;
+use crate::form::{NameForm, UnitForm, push_form};
 use crate::name::{Own, name_in, names_of};
-use crate::text::ROOM;
+use crate::text::{ROOM, Text};
 use notations::rows::Style;
 use symbols::keys::TWO_BYTES;
 use symbols::lookup::symbol;
-use symbols::{Span, SymbolAt};
+use symbols::prefix_table::{PREFIXES, prefix_code};
+use symbols::unit_table::nth_name;
+use symbols::{Span, SymbolAt, UnitAt};
 
 // A term of the source: its unit, and the letters of its name.
 #[derive(Clone, Copy)]
@@ -24,19 +24,14 @@ pub struct SourceTerm {
     pub own: Own,
 }
 
-// The code of a prefix, 0 without one.
-pub fn prefix_code(prefixes: &[u32], prefix: u8) -> u32
-    requires { prefixes.now ≡ prefix_codes }
+// The code of a prefix, 0 without one and past the last.
+pub fn code_of(prefix: Option<u8>) -> u32
     ensures { PrefixCode prefix result }
 {
-    if prefix == 0 {
-        return 0;
+    match prefix {
+        Some(place) if (place as usize) < PREFIXES => prefix_code(place as usize),
+        _ => 0,
     }
-    let i = (prefix - 1) as usize;
-    if i < prefixes.len() {
-        return prefixes[i];
-    }
-    0
 }
 
 // Whether two symbols are the same, the one of the label `s` and the other of `t`.
@@ -47,97 +42,47 @@ fn is_same(s: &[u8], x: SymbolAt, t: &[u8], y: SymbolAt) -> bool
     if x.prefix != y.prefix {
         return false;
     }
-    if x.known {
-        if y.known {
-            return x.unit == y.unit;
-        }
-        return false;
-    }
-    if y.known {
-        return false;
-    }
-    same_letters(s, x.start, x.end, t, y.start, y.end)
-}
-
-// No form.
-fn no_form() -> UnitForm
-    ensures { result ≡ no_form }
-{
-    UnitForm {
-        kind: NO_FORM,
-        prefix: 0,
-        name: 0,
-        start: 0,
-        end: 0,
+    match (x.unit, y.unit) {
+        (UnitAt::Known(u), UnitAt::Known(v)) => u == v,
+        (UnitAt::Unknown(l), UnitAt::Unknown(k)) => s[l.start..l.end] == t[k.start..k.end],
+        _ => false,
     }
 }
 
 // The form of a unit without quotes in notation `m`: its prefix, and the name that it takes there or its letters.
-fn plain_form(keys: &[u64], codes: &[u32], prefixes: &[u32], m: u8, term: SourceTerm) -> UnitForm
-    requires { NameColumns keys.now codes.now × (prefixes.now ≡ prefix_codes) }
+fn plain_form(m: u8, term: SourceTerm) -> Option<UnitForm>
     ensures { PlainOf m term result }
 {
-    let unit = term.unit;
-    let prefix = (prefix_code(prefixes, unit.prefix) % TWO_BYTES) as u64;
-    if !unit.known {
-        return UnitForm {
-            kind: PLAIN,
-            prefix,
-            name: 0,
-            start: unit.start,
-            end: unit.end,
-        };
-    }
-    let name = name_in(keys, codes, m, names_of(unit.unit), term.own);
-    if name == 0 {
-        return no_form();
-    }
-    UnitForm {
-        kind: PLAIN,
-        prefix,
-        name: keys[name - 1],
-        start: 0,
-        end: 0,
-    }
+    let name = match term.unit.unit {
+        UnitAt::Known(unit) => NameForm::Known(nth_name(name_in(m, names_of(unit), term.own)?).key),
+        UnitAt::Unknown(letters) => NameForm::Plain(letters),
+    };
+    let prefix = u64::from(code_of(term.unit.prefix) % TWO_BYTES);
+    Some(UnitForm { prefix, name })
 }
 
 // The form of a unit of the label `s` that the target reads as the same: plain, or quoted, or none.
-pub fn form_of(
-    keys: &[u64],
-    codes: &[u32],
-    prefixes: &[u32],
-    style: Style,
-    s: &[u8],
-    term: SourceTerm,
-) -> UnitForm
-    requires name_columns { NameColumns keys.now codes.now × (prefixes.now ≡ prefix_codes) }
-    requires letters_inside { LettersInside s.now term.unit × (length s.now ≤ most_bytes) }
+pub fn form_of(style: Style, s: &[u8], term: SourceTerm) -> Option<UnitForm>
+    requires { LettersInside s.now term.unit × (length s.now ≤ most_bytes) }
     ensures by_index { (own : List ℕ) → Owns own term
-        → form_text s.now result ≡ symbol_text (style_in style) style.notation own (symbol_in s.now term.unit) }
-    ensures form_in { FormIn s.now result }
+        → written_form s.now result ≡ symbol_text (style_in style) style.notation own (symbol_in s.now term.unit) }
+    ensures form_in { IfSome result (λ form. NameInside s.now form.name) }
 {
     let m = style.notation;
-    let form = plain_form(keys, codes, prefixes, m, term);
-    if form.kind == NO_FORM {
-        return form;
+    let form = plain_form(m, term)?;
+    let mut plain = Text::<ROOM>::new();
+    push_form(&mut plain, s, form);
+    let spelling = plain.written()?; // it is never longer than the room
+    let end = spelling.len();
+    let y = symbol(m, spelling, Span { start: 0, end });
+    if is_same(spelling, y, s, term.unit) {
+        return Some(form);
     }
-    let mut plain: [u8; ROOM] = [0; ROOM];
-    let end = push_form(&mut plain, 0, s, form);
-    let y = symbol(keys, codes, prefixes, m, &plain, Span { start: 0, end });
-    if is_same(&plain, y, s, term.unit) {
-        return form;
-    }
-    if term.unit.known {
-        return no_form();
-    }
-    if style.quotes {
-        return UnitForm {
-            kind: QUOTED,
+    match term.unit.unit {
+        UnitAt::Unknown(letters) if style.quotes => Some(UnitForm {
             prefix: form.prefix,
-            name: form.name,
-            start: form.start,
-            end: form.end,
-        };
+            name: NameForm::Quoted(letters),
+        }),
+        _ => None,
     }
-    no_form()
 }

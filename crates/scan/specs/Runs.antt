@@ -15,3 +15,7 @@ pub record Run (p : ℕ → Bool) (s : List ℕ) (at e : ℕ) : Type 0 where
   pub within : e ≤ length s
   pub bytes : between s at e ≡ run p (drop at s)
   pub rest : drop e s ≡ past p (drop at s)
+
+-- whether a byte is of the class p is what `answers` has for it
+abbrev pub Decides : (ℕ → Bool → Type 0) → (ℕ → Bool) → Type 0
+Decides answers p = (x : ℕ) (b : Bool) → answers x b → b ≡ p x

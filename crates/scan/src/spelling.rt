@@ -1,103 +1,61 @@
-// Spellings: letters, letters in quotes, a percent sign.
+// Spellings: letters, letters in quotes, a percent sign. A function that looks for one answers where it ends.
 ghost use Rattle.std.specs.Prelude.{◌≤◌, ◌<◌, ◌≡◌, length};
 ghost use Rattle.label.specs.Prefixes.{prefix_name};
-ghost use Rattle.label.specs.Ranges.{between};
 ghost use Rattle.scan.specs.Spellings.{QuoteAt, ReadsQuoted, ReadsLettered, ReadsSpelling};
 
-use crate::class::{both, is_letter};
+use crate::class::{byte_at, is_letter};
 use crate::run::letters;
 use label::Rules;
 use symbols::lookup::prefix_named;
-use symbols::prefix_table::prefix_codes;
 
-// A spelling, by the place where it ends. Where there is none, `ok` is false and `end` is the place read from.
-#[derive(Clone, Copy)]
-pub struct SpellingAt {
-    pub ok: bool,
-    pub end: usize,
-}
-
-// Whether the bytes from `start` up to `end` are the name of a prefix.
-pub fn is_prefix_name(s: &[u8], start: usize, end: usize) -> bool
-    requires { (start ≤ end) × (end ≤ length s.now) }
-    ensures { result ≡ prefix_name (between s.now start end) }
+// Whether a spelling is the name of a prefix.
+#[tactic(auto, unfolding(label::specs::Prefixes::prefix_name))]
+pub fn is_prefix_name(spelling: &[u8]) -> bool
+    ensures { result ≡ prefix_name spelling.now }
 {
-    let prefixes = prefix_codes();
-    0 < prefix_named(&prefixes, s, start, end)
+    prefix_named(spelling).is_some()
 }
 
 // Letters and a closing quote, after the quote at `at`. The spelling starts at `start`: a prefix may be there.
-pub fn quoted_from(s: &[u8], start: usize, at: usize) -> SpellingAt
+pub fn quoted_from(s: &[u8], start: usize, at: usize) -> Option<usize>
     requires { QuoteAt s.now start at }
     ensures { ReadsQuoted s.now start at result }
 {
     let first = at + 1;
     let end = letters(s, first);
     if end == first {
-        return SpellingAt {
-            ok: false,
-            end: start,
-        };
+        return None;
     }
-    if s.len() <= end {
-        return SpellingAt {
-            ok: false,
-            end: start,
-        };
-    }
-    if s[end] != b'\'' {
-        return SpellingAt {
-            ok: false,
-            end: start,
-        };
-    }
-    SpellingAt {
-        ok: true,
-        end: end + 1,
-    }
+    let closed = byte_at(s, end) == b'\'';
+    closed.then_some(end + 1)
 }
 
 // The letters from `start` up to `end`, or a quoted spelling that they begin.
-pub fn lettered_from(r: Rules, s: &[u8], start: usize, end: usize) -> SpellingAt
+#[tactic(auto, using(crate::proofs::Spellings::lettered_plain, crate::proofs::Spellings::quote_at, crate::proofs::Spellings::lettered_unnamed, crate::proofs::Spellings::lettered_named))]
+pub fn lettered_from(r: Rules, s: &[u8], start: usize, end: usize) -> Option<usize>
     requires { (start < end) × (end ≤ length s.now) }
     ensures { ReadsLettered r s.now start end result }
 {
-    if s.len() <= end {
-        return SpellingAt { ok: true, end };
+    if byte_at(s, end) != b'\'' || !r.quotes {
+        return Some(end);
     }
-    if !both(s[end] == b'\'', r.quotes) {
-        return SpellingAt { ok: true, end };
-    }
-    if !is_prefix_name(s, start, end) {
-        return SpellingAt {
-            ok: false,
-            end: start,
-        };
+    if !is_prefix_name(&s[start..end]) {
+        return None;
     }
     quoted_from(s, start, end)
 }
 
 // The spelling that starts at `at`.
-pub fn spelling_at(r: Rules, s: &[u8], at: usize) -> SpellingAt
+#[tactic(auto, using(crate::proofs::Scanning::letters_ahead, crate::proofs::Spellings::spelling_percent, crate::proofs::Spellings::quote_at, crate::proofs::Spellings::spelling_unquoted, crate::proofs::Spellings::spelling_quoted, crate::proofs::Spellings::spelling_lettered, crate::proofs::Spellings::spelling_none))]
+pub fn spelling_at(r: Rules, s: &[u8], at: usize) -> Option<usize>
     requires { at ≤ length s.now }
     ensures { ReadsSpelling r s.now at result }
 {
-    if s.len() <= at {
-        return SpellingAt { ok: false, end: at };
+    match byte_at(s, at) {
+        b'%' => r.percent.then_some(at + 1),
+        b'\'' if !r.quotes => None,
+        b'\'' => quoted_from(s, at, at),
+        c if is_letter(c) => lettered_from(r, s, at, letters(s, at)),
+        _ => None,
     }
-    let c = s[at];
-    if is_letter(c) {
-        let end = letters(s, at);
-        return lettered_from(r, s, at, end);
-    }
-    if both(c == b'%', r.percent) {
-        return SpellingAt {
-            ok: true,
-            end: at + 1,
-        };
-    }
-    if both(c == b'\'', r.quotes) {
-        return quoted_from(s, at, at);
-    }
-    SpellingAt { ok: false, end: at }
 }

@@ -1,27 +1,35 @@
--- One step of a search through a part of a slice.
-use Rattle.std.proofs.Common.{◌≡◌, ℕ, suc, ◌+◌, ◌-◌, ◌<◌, ◌≤◌, true, false, List, ◌∷◌, length, get_or, eqb, take, drop, ap, ◌∙◌, arith, drop-cons}
+-- A search through a part of a slice, by the library's first place that passes a test.
+use Rattle.std.proofs.Common.{◌≡◌, ℕ, ◌+◌, ◌-◌, ◌≤◌, Bool, true, false, not, cond, Some, None, List, length, eqb, drop, refl, sym, ◌∙◌, arith, length-take, length-drop}
+use lib.Dec.{ltb}
+use borrow.Author.Tests.{ltb-false}
+use Rattle.std.specs.List.{position, position_or_len}
+use Rattle.std.proofs.lemmas.List.Recursion.{is_position_or_len}
+use Rattle.std.proofs.lemmas.List.Sums.{prefix_len-le-length}
 use Rattle.slices.specs.Slices.{index_of, index_after, slice}
 
--- a part that is not empty has a first number
-pub slice_cons : (i end : ℕ) (s : List ℕ) → i < end → end ≤ length s → slice i end s ≡ get_or s i 0 ∷ slice (i + 1) end s
+index_is : (b : ℕ) (s : List ℕ) → index_of b s ≡ position_or_len (λ c. eqb c b) s
+unfolding index_of index_after
+index_is b = is_position_or_len (index_of b) (λ c. eqb c b) refl (λ c s. go (eqb c b) (index_of b s))
+  where
+    go : (t : Bool) (n : ℕ) → index_after t n ≡ cond t 0 (1 + n)
+    go true n = refl
+    go false n = omega arith
+
+-- where there is such a byte, and where there is none
+pub found : (b : ℕ) (s : List ℕ) (i : ℕ) → position (λ c. eqb c b) s ≡ Some i → i ≡ index_of b s
+found b s i e = go (ltb (position_or_len (λ c. eqb c b) s) (length s)) e ∙ sym (index_is b s)
+  where
+    go : (t : Bool) → cond t (Some (position_or_len (λ c. eqb c b) s)) None ≡ Some i → i ≡ position_or_len (λ c. eqb c b) s
+    go true e = cc
+    go false e = cc
+
+pub missed : (b : ℕ) (s : List ℕ) → position (λ c. eqb c b) s ≡ None → length s ≡ index_of b s
+missed b s e = go (ltb (position_or_len (λ c. eqb c b) s) (length s)) refl e ∙ sym (index_is b s)
+  where
+    go : (t : Bool) → ltb (position_or_len (λ c. eqb c b) s) (length s) ≡ t → cond t (Some (position_or_len (λ c. eqb c b) s)) None ≡ None → length s ≡ position_or_len (λ c. eqb c b) s
+    go true h e = cc
+    go false h e = omega (arith, ltb-false _ _ h, prefix_len-le-length (λ c. not (eqb c b)) s)
+
+pub length_slice : (from to : ℕ) (s : List ℕ) → to ≤ length s → length (slice from to s) ≡ to - from
 unfolding slice
-slice_cons i end s h g =
-    let n : end - i ≡ suc (end - (i + 1)) = omega arith in
-    let l : i < length s = omega arith in
-    let k : i + 1 ≡ suc i = omega arith in
-    let d : drop i s ≡ get_or s i 0 ∷ drop (i + 1) s = rw k (drop-cons s i 0 l) in
-    ap (take (end - i)) d ∙ ap (λ (k : ℕ). take k (get_or s i 0 ∷ drop (i + 1) s)) n
-
-pub found_here : (byte i end : ℕ) (s : List ℕ) → i < end → end ≤ length s → eqb (get_or s i 0) byte ≡ true → i + index_of byte (slice i end s) ≡ i
-unfolding index_of index_after
-found_here byte i end s h g e = rw (slice_cons i end s h g, e) (omega arith)
-
-pub found_later : (byte i end : ℕ) (s : List ℕ) → i < end → end ≤ length s → eqb (get_or s i 0) byte ≡ false
-    → i + index_of byte (slice i end s) ≡ i + 1 + index_of byte (slice (i + 1) end s)
-unfolding index_of index_after
-found_later byte i end s h g e = rw (slice_cons i end s h g, e) (omega arith)
-
--- an empty part has none
-pub found_nowhere : (byte end : ℕ) (s : List ℕ) → end + index_of byte (slice end end s) ≡ end
-unfolding index_of slice
-found_nowhere byte end s = let n : end - end ≡ 0 = omega arith in rw n (omega arith)
+length_slice from to s h = omega (arith, length-take (to - from) (drop from s), length-drop from s)

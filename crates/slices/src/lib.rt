@@ -22,12 +22,8 @@ pub fn find(s: &[u8], start: usize, end: usize, byte: u8) -> usize
     ensures is { result ≡ start + index_of byte (slice start end s.now) }
     ensures within { result ≤ end }
 {
-    let mut i = start;
-    while i < end {
-        if s[i] == byte {
-            return i;
-        }
-        i += 1;
+    match s[start..end].iter().position(|c| *c == byte) {
+        Some(i) => start + i,
+        None => end,
     }
-    end
 }

@@ -1,57 +1,47 @@
 -- Keys: how one is made byte by byte, that the letters come back from it, and that spellings by their lengths and keys agree exactly if the
 -- bytes do.
-use Prim.Native.Nat.{ℕ, zero, suc, ◌+◌, ◌*◌, ◌-◌, ◌/◌, ◌%◌, ◌<◌, ◌≤◌, ◌^◌}
+use Prim.Native.Nat.{ℕ, zero, suc, ◌+◌, ◌*◌, ◌/◌, ◌%◌, ◌<◌, ◌≤◌, ◌^◌}
 use native.Mathlib.Omega.{arith}
-use native.Mathlib.Nat.{pow-suc, sub_self, div-one, div-div-eq-div-mul, pow-le-pow_right, lt_of_lt_of_le}
+use native.Mathlib.Nat.{pow-suc, div-one, div-div-eq-div-mul, pow-le-pow_right, lt_of_lt_of_le}
 use mathlib.Core.Path.{◌≡◌, refl, sym, ap, ◌∙◌}
 use mathlib.Core.Bool.{Bool, true, false, ◌&&◌}
 use mathlib.Core.List.{List, [], ◌∷◌}
 use lib.Dec.{T, leb, ltb, eqb, leb→le, ltb→lt}
-use lib.ListN.{length, get_or}
+use native.Mathlib.Numerals.{add-one}
+use lib.ListN.{length, drop, get_or, drop_of_length-le}
+use lib.Seq.{drop-cons}
 use mir.Syntax.{w8}
 use mir.Val.{Fits}
 use borrow.Author.Tests.{eqb-false}
 use Rattle.label.proofs.Basics.{both, same_is}
 use Rattle.label.specs.Bytes.{all, same}
-use Rattle.label.specs.Ranges.{between}
 use Rattle.symbols.specs.Keys.{most_letters, key_from, key_of, spelling, agrees}
-use Rattle.label.proofs.Between.{Bytes, between_none, between_cons, length_between, fits_between}
+use Rattle.label.proofs.Between.{Bytes}
 
 -- MAKING A KEY
 
--- of the bytes from start to end those before i make the number k
-pub record Keyed (s : List ℕ) (start end k i : ℕ) : Type 0 where
-  pub after : start ≤ i
-  pub before : i ≤ end
-  pub same : key_from k (between s i end) ≡ key_of (between s start end)
-  pub size : k < 256 ^ (i - start)
+-- of the bytes l those before i make the number k
+pub record Keyed (l : List ℕ) (k i : ℕ) : Type 0 where
+  pub same : key_from k (drop i l) ≡ key_of l
+  pub size : k < 256 ^ i
 
-pub keyed_none : (s : List ℕ) (start end : ℕ) → start ≤ end → Keyed s start end 0 start
-keyed_none s start end h = record { after = omega arith; before = h; same = refl; size = rw (sub_self start) (omega arith) }
-
-module _ {s : List ℕ} {start end k i : ℕ} (f : end - start ≤ most_letters) (w : Keyed s start end k i) (h : i < end) where
+module _ {l : List ℕ} {k i : ℕ} (w : Keyed l k i) where
   -- a number of fewer than eight bytes leaves room for one more
-  pub room : k < 256 ^ 7
-  room =
-      let j : i - start ≤ 7 = omega (arith, w.after) in
+  pub room : i < length l → length l ≤ most_letters → k < 256 ^ 7
+  room h f =
+      let j : i ≤ 7 = omega arith in
       lt_of_lt_of_le w.size (pow-le-pow_right {n = 256} (omega arith) j)
 
-  pub keyed_more : end ≤ length s → get_or s i 0 < 256 → Keyed s start end (k * 256 + get_or s i 0) (i + 1)
+  pub keyed_more : i < length l → get_or l i 0 < 256 → Keyed l (k * 256 + get_or l i 0) (i + 1)
   unfolding key_from
-  keyed_more l b =
-      let e : i + 1 - start ≡ suc (i - start) = omega (arith, w.after) in
-      record {
-        after = omega (arith, w.after);
-        before = omega arith;
-        same = rw (between_cons s i end h l) at w.same;
-        size = rw (e, pow-suc 256 (i - start)) (omega (arith, w.size));
-      }
+  keyed_more h b = record {
+    same = rw (add-one i) (rw (drop-cons l i 0 h) at w.same);
+    size = rw (add-one i, pow-suc 256 i) (omega (arith, w.size));
+  }
 
-pub keyed_end : (s : List ℕ) (start end k i : ℕ) → end ≤ i → Keyed s start end k i → k ≡ key_of (between s start end)
-unfolding key_from
-keyed_end s start end k i h w =
-    let e : i ≡ end = omega (arith, w.before) in
-    rw (between_none s end) at (rw e at w.same)
+  pub keyed_end : length l ≤ i → k ≡ key_of l
+  unfolding key_from
+  keyed_end h = rw (drop_of_length-le l {i = i} h) at w.same
 
 -- COMPARING KEYS
 
@@ -141,11 +131,6 @@ other_key {l} {size} {number} w t h = go (same l t) refl
     go true e = absurd (eqb-false number (key_of t) h (w.number_is ∙ ap key_of (same_is l t e)))
     go false e = refl
 
--- a part of a slice that is short enough for a key
-pub spelled_part : (s : List ℕ) (start end : ℕ) → start ≤ end → end ≤ length s → ((i : ℕ) → Fits w8 (get_or s i 0)) → (number : ℕ)
-    → number ≡ key_of (between s start end) → SpellingKey (between s start end) (end - start) number
-spelled_part s start end h g f number e = record {
-  bytes = fits_between s start end f;
-  size_is = sym (length_between s start end g);
-  number_is = e;
-}
+-- a slice of bytes
+pub spelled : {l : List ℕ} {size number : ℕ} → ((i : ℕ) → Fits w8 (get_or l i 0)) → size ≡ length l → number ≡ key_of l → SpellingKey l size number
+spelled f s e = record { bytes = λ i. (f i).fits; size_is = s; number_is = e }

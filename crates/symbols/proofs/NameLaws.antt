@@ -5,7 +5,7 @@ use native.Mathlib.Numerals.{add-one}
 use mathlib.Core.Path.{◌≡◌, refl, sym, ◌∙◌}
 use mathlib.Core.Bool.{Bool, true, false, ◌&&◌, ◌||◌}
 use mathlib.Core.List.{List, [], ◌∷◌, ◌++◌}
-use mathlib.Core.Option.{Option, some}
+use mathlib.Core.Option.{Option, none, some}
 use lib.Dec.{T, leb, eqb, leb→le}
 use lib.ListN.{length, get_or, get_or-map}
 use borrow.Author.Tests.{eqb-true}
@@ -19,8 +19,8 @@ use Rattle.symbols.specs.Keys.{most_letters, key_from, key_of, agrees}
 use Rattle.symbols.specs.Sets.{bits, has_bit}
 use Rattle.symbols.specs.Names.{Entry, entries_of, entries_from, names}
 use Rattle.symbols.specs.Groups.{groups}
-use Rattle.symbols.specs.Columns.{name_count, name_keys, name_code, name_codes, NameColumns}
-use Rattle.symbols.specs.Views.{place}
+use Rattle.symbols.specs.Columns.{name_count, name_keys, name_code, name_codes, NameAt}
+use Rattle.symbols.specs.declared.unit_table.Name as code
 use Rattle.symbols.proofs.Computing.{columns_compute}
 use Rattle.symbols.proofs.GroupLaws.{start, start_upto, before_start}
 use Rattle.symbols.proofs.KeyLaws.{keyable, long_other, SpellingKey, agrees_spelled, other_key}
@@ -141,78 +141,79 @@ module _ (i : ℕ) where
   pub member_at : (n : ℕ) → has_bit n (bits (entry i).known_in) ≡ member n (entry i).known_in
   member_at n = bit_member n (entry i).known_in (both (told_by_bits (entry i).known_in) _ set_sound).0
 
-  pub unit_room : {cs : List ℕ} → cs ≡ name_codes → get_or cs i 0 % 256 ≤ most_row
-  unit_room e = rw (e, code_at, code_sound.1.1) unit_sound
-
--- each column has an element for each name
-pub key_column_count : {ks : List ℕ} → ks ≡ name_keys → length ks ≡ name_count
-unfolding columns_compute
-key_column_count e = rw e
-
-pub code_column_count : {cs : List ℕ} → cs ≡ name_codes → length cs ≡ name_count
-unfolding columns_compute
-code_column_count e = rw e
+  pub unit_room : get_or name_codes i 0 % 256 ≤ most_row
+  unit_room = rw (code_at, code_sound.1.1) unit_sound
 
 -- SEARCHING A UNIT BY ITS NAME
 
 -- a spelling of more letters than a key can hold is no name
-pub too_long : (n : ℕ) (l : List ℕ) → most_letters < length l → place 0 ≡ unit_named n l
-unfolding place is_entry sound
+pub too_long : (n : ℕ) (l : List ℕ) → most_letters < length l → none ≡ unit_named n l
+unfolding is_entry sound
 too_long n l h = sym (first_none (is_entry n l) sound row 0 names names_sound other) ∙ first_named n l
   where
     other : (x : Entry) → T (sound x) → is_entry n l x ≡ false
     other x t = rw (long_other l x.letters h (both (keyable x.letters) _ t).0)
 
--- the columns are lent, the spelling l has that size and key, and no name before place i is l
-pub record SearchingNames (ks cs : List ℕ) (n : ℕ) (l : List ℕ) (size number i : ℕ) : Type 0 where
-  pub columns : NameColumns ks cs
+-- the spelling l has that size and key, and no name before place i is l
+pub record SearchingNames (n : ℕ) (l : List ℕ) (size number i : ℕ) : Type 0 where
   pub spelled : SpellingKey l size number
   pub sought : Sought (is_entry n l) row names (unit_named n l) i
 
-module _ {ks cs : List ℕ} {n : ℕ} {l : List ℕ} {size number : ℕ} where
-  pub search_none : NameColumns ks cs → SpellingKey l size number → SearchingNames ks cs n l size number 0
-  search_none w v = record { columns = w; spelled = v; sought = sought_none (first_named n l) }
+-- a name is the spelling of that size and key, and notation n knows it
+abbrev pub named_by : ℕ → ℕ → ℕ → code.Name → Bool
+named_by n size number x = agrees size number x.size x.key && has_bit n x.known_in
 
-  pub search_all : {i : ℕ} → name_count ≤ i → SearchingNames ks cs n l size number i → place 0 ≡ unit_named n l
-  unfolding place
+-- the name at place i
+abbrev pub name : ℕ → code.Name
+name i = record {
+  key = get_or name_keys i 0;
+  size = get_or name_codes i 0 / 65536;
+  known_in = get_or name_codes i 0 / 256 % 256;
+  unit = get_or name_codes i 0 % 256;
+}
+
+module _ {n : ℕ} {l : List ℕ} {size number : ℕ} where
+  search_none : SpellingKey l size number → SearchingNames n l size number 0
+  search_none v = record { spelled = v; sought = sought_none (first_named n l) }
+
+  pub search_all : {i : ℕ} → name_count ≤ i → SearchingNames n l size number i → none ≡ unit_named n l
   search_all h w = sought_all (omega (arith, names_count)) w.sought
 
-  module _ {i : ℕ} (h : i < name_count) (w : SearchingNames ks cs n l size number i) {r : Bool}
-      (e : r ≡ (agrees size number (get_or cs i 0 / 65536) (get_or ks i 0) && has_bit n (get_or cs i 0 / 256 % 256))) where
-    told : is_entry n l (entry i) ≡ r
+  module _ {i : ℕ} (h : i < name_count) (w : SearchingNames n l size number i) where
+    told : named_by n size number (name i) ≡ is_entry n l (entry i)
     unfolding is_entry
-    told = sym (e ∙ rw (
-      w.columns.keys_are,
-      w.columns.codes_are,
+    told = rw (
       key_at i,
       code_at i,
       (code_sound i).0,
       (code_sound i).1.0,
       agrees_spelled w.spelled (entry i).letters (letters_sound i),
       member_at i n,
-    ))
+    )
 
-    pub search_hit : r ≡ true → place (get_or cs i 0 % 256 + 1) ≡ unit_named n l
-    unfolding place entry
-    search_hit t =
-        rw (w.columns.codes_are, code_at i, (code_sound i).1.1, add-one) (sought_hit nobody (omega (arith, names_count)) w.sought (told ∙ t))
+    -- the answer r of the comparison with the name x
+    module _ {x : code.Name} (at : NameAt i x) {r : Bool} (e : r ≡ named_by n size number x) where
+      answer : is_entry n l (entry i) ≡ r
+      answer = sym (e ∙ rw (at.size_is, at.key_is, at.set_is) told)
 
-    pub search_miss : r ≡ false → SearchingNames ks cs n l size number (i + 1)
-    unfolding entry
-    search_miss t = record {
-      columns = w.columns;
-      spelled = w.spelled;
-      sought = sought_miss nobody (omega (arith, names_count)) w.sought (told ∙ t);
-    }
+      pub search_hit : r ≡ true → some x.unit ≡ unit_named n l
+      unfolding entry
+      search_hit t =
+          rw (at.unit_is, code_at i, (code_sound i).1.1) (sought_hit nobody (omega (arith, names_count)) w.sought (answer ∙ t))
+
+      pub search_miss : r ≡ false → SearchingNames n l size number (i + 1)
+      unfolding entry
+      search_miss t = record {
+        spelled = w.spelled;
+        sought = sought_miss nobody (omega (arith, names_count)) w.sought (answer ∙ t);
+      }
 
   -- a search can start at the first name of the spelling's group
-  pub search_start : NameColumns ks cs → SpellingKey l size number → SearchingNames ks cs n l size number (start (number % groups))
-  search_start w v = go (start (number % groups)) (omega arith)
+  pub search_start : SpellingKey l size number → SearchingNames n l size number (start (number % groups))
+  search_start v = go (start (number % groups)) (omega arith)
     where
-      other : (i : ℕ) → i < start (number % groups) → false ≡ (agrees size number (get_or cs i 0 / 65536) (get_or ks i 0) && has_bit n (get_or cs i 0 / 256 % 256))
+      other : (i : ℕ) → i < start (number % groups) → false ≡ named_by n size number (name i)
       other i h = rw (
-        w.keys_are,
-        w.codes_are,
         key_at i,
         code_at i,
         (code_sound i).0,
@@ -220,7 +221,8 @@ module _ {ks cs : List ℕ} {n : ℕ} {l : List ℕ} {size number : ℕ} where
         other_key v (entry i).letters (rw (key_at i) at (before_start number i h)),
       )
 
-      go : (i : ℕ) → i ≤ start (number % groups) → SearchingNames ks cs n l size number i
-      go zero h = search_none w v
+      go : (i : ℕ) → i ≤ start (number % groups) → SearchingNames n l size number i
+      go zero h = search_none v
       go (suc i) h =
-          rw (add-one i) at (search_miss {i = i} (omega (arith, h, start_upto (number % groups))) (go i (omega (arith, h))) (other i (omega (arith, h))) refl)
+          rw (add-one i) at
+          (search_miss {i = i} (omega (arith, h, start_upto (number % groups))) (go i (omega (arith, h))) {x = name i} (record { key_is = refl; size_is = refl; set_is = refl; unit_is = refl }) (other i (omega (arith, h))) refl)

@@ -76,7 +76,6 @@ sizes_differ size number symbol_size symbol h = (
 -- of two spellings of one size the first letters, so many, are the same
 pub record SameUpTo (size number symbol_size symbol pairs : ℕ) : Type 0 where
   pub one_size : symbol_size ≡ size
-  pub upto : pairs ≤ size
   pub shared : List ℕ
   pub counted : length shared ≡ pairs
   pub spelled : spelling size number ≡ shared ++ spelling (size - pairs) number
@@ -85,17 +84,17 @@ pub record SameUpTo (size number symbol_size symbol pairs : ℕ) : Type 0 where
 pub same_start : (size number symbol_size symbol : ℕ) → size ≡ symbol_size → SameUpTo size number symbol_size symbol 0
 same_start size number symbol_size symbol e =
     let all : size - 0 ≡ size = omega arith in
-    record { one_size = sym e; upto = omega arith; shared = []; counted = refl; spelled = rw all; symbol_spelled = rw all }
+    record { one_size = sym e; shared = []; counted = refl; spelled = rw all; symbol_spelled = rw all }
 
 module _ {size number symbol_size symbol pairs : ℕ} (w : SameUpTo size number symbol_size symbol pairs) where
-  pub no_difference : size ≤ pairs → Told size number symbol_size symbol true pairs
+  pub no_difference : size ≤ pairs → Told size number symbol_size symbol true size
   unfolding spelling
   no_difference h =
       let none : size - pairs ≡ 0 = omega arith in
       let e : spelling size number ≡ spelling size symbol = rw none at w.spelled ∙ sym (rw none at w.symbol_spelled) in
       rw (w.one_size, e) (
         sym (same_self (spelling size symbol)),
-        omega (arith, w.upto) ∙ sym (all_pairs (spelling size symbol) ∙ length_spelling size symbol),
+        sym (all_pairs (spelling size symbol) ∙ length_spelling size symbol),
       )
 
   module _ (h : pairs < size) where
@@ -111,7 +110,6 @@ module _ {size number symbol_size symbol pairs : ℕ} (w : SameUpTo size number 
         let f : size - (pairs + 1) ≡ after = omega arith in
         record {
           one_size = w.one_size;
-          upto = omega arith;
           shared = w.shared ++ (letter_at after symbol ∷ []);
           counted = length-append w.shared (letter_at after symbol ∷ []) ∙ omega (arith, w.counted);
           spelled = w.spelled ∙ rw (next number, e, f) (sym (append_assoc w.shared (letter_at after symbol ∷ []) (spelling after number)));

@@ -1,7 +1,7 @@
 -- The search of a prefix: the column has a code for each prefix.
 use Prim.Native.Nat.{ℕ, suc, ◌+◌, ◌/◌, ◌%◌, ◌≤◌, ◌<◌}
 use native.Mathlib.Omega.{arith}
-use native.Mathlib.Numerals.{add-one}
+use mathlib.Core.Option.{none, some}
 use mathlib.Core.Path.{◌≡◌, refl, sym, ◌∙◌}
 use mathlib.Core.Bool.{Bool, true, false, ◌&&◌}
 use mathlib.Core.List.{List, [], ◌∷◌}
@@ -14,7 +14,6 @@ use Rattle.label.specs.Bytes.{same}
 use Rattle.label.specs.Prefixes.{Prefix, prefixes, placed, prefix_named}
 use Rattle.symbols.specs.Keys.{most_letters, key_from, key_of, agrees}
 use Rattle.symbols.specs.Columns.{prefix_count, prefix_code, prefix_codes}
-use Rattle.symbols.specs.Views.{place}
 use Rattle.symbols.proofs.Computing.{columns_compute}
 use Rattle.symbols.proofs.KeyLaws.{keyable, long_other, SpellingKey, agrees_spelled}
 use Rattle.symbols.proofs.RowLaws.{every, every_at, first, first_none, at_place, Sought, sought_none, sought_all, sought_hit, sought_miss}
@@ -69,11 +68,6 @@ module _ (i : ℕ) where
   unfolding prefix_codes entry nothing key_from
   code_at = get_or-map prefix_code prefixes i nothing
 
--- the column has an element for each prefix
-pub codes_count : {cs : List ℕ} → cs ≡ prefix_codes → length cs ≡ prefix_count
-unfolding columns_compute
-codes_count e = rw e
-
 -- SEARCHING A PREFIX
 
 -- the spelling l is this prefix
@@ -90,41 +84,39 @@ unfolding prefix_named
 first_named l = first_placed 0 l prefixes
 
 -- a spelling of more letters than a key can hold is no prefix
-pub too_long : (l : List ℕ) → most_letters < length l → place 0 ≡ prefix_named l
-unfolding place is_prefix has_key
+pub too_long : (l : List ℕ) → most_letters < length l → none ≡ prefix_named l
+unfolding is_prefix has_key
 too_long l h =
     sym (first_none (is_prefix l) has_key at_place 0 prefixes prefixes_keyed (λ p t. long_other l p.name h (both (keyable p.name) _ t).0)) ∙ first_named l
 
--- the column is lent, the spelling l has that size and key, and no prefix before place i is l
-pub record SearchingPrefixes (cs l : List ℕ) (size number i : ℕ) : Type 0 where
-  pub column : cs ≡ prefix_codes
+-- the spelling l has that size and key, and no prefix before place i is l
+pub record SearchingPrefixes (l : List ℕ) (size number i : ℕ) : Type 0 where
   pub spelled : SpellingKey l size number
   pub sought : Sought (is_prefix l) at_place prefixes (prefix_named l) i
 
-module _ {cs l : List ℕ} {size number : ℕ} where
-  pub search_none : cs ≡ prefix_codes → SpellingKey l size number → SearchingPrefixes cs l size number 0
-  search_none w v = record { column = w; spelled = v; sought = sought_none (first_named l) }
+module _ {l : List ℕ} {size number : ℕ} where
+  pub search_none : SpellingKey l size number → SearchingPrefixes l size number 0
+  search_none v = record { spelled = v; sought = sought_none (first_named l) }
 
-  pub search_all : {i : ℕ} → prefix_count ≤ i → SearchingPrefixes cs l size number i → place 0 ≡ prefix_named l
-  unfolding place
+  pub search_all : {i : ℕ} → prefix_count ≤ i → SearchingPrefixes l size number i → none ≡ prefix_named l
   search_all h w = sought_all (omega (arith, prefixes_count)) w.sought
 
-  module _ {i : ℕ} (h : i < prefix_count) (w : SearchingPrefixes cs l size number i) {r : Bool}
-      (e : r ≡ agrees size number (get_or cs i 0 / 65536) (get_or cs i 0 % 65536)) where
-    told : is_prefix l (entry i) ≡ r
+  -- the answer r of the comparison with the prefix of that code
+  module _ {i : ℕ} (h : i < prefix_count) (w : SearchingPrefixes l size number i) {code : ℕ} (c : code ≡ get_or prefix_codes i 0) {r : Bool}
+      (e : r ≡ agrees size number (code / 65536) (code % 65536)) where
+    answer : is_prefix l (entry i) ≡ r
     unfolding is_prefix
-    told =
-        sym (e ∙ rw (w.column, code_at i, code_length i, code_key i)
+    answer =
+        sym (e ∙ rw (c, code_at i, code_length i, code_key i)
         (agrees_spelled w.spelled (entry i).name (letters_keyed i)))
 
-    pub search_hit : r ≡ true → place (i + 1) ≡ prefix_named l
-    unfolding place entry
-    search_hit t = rw (add-one i) (sought_hit nothing (omega (arith, prefixes_count)) w.sought (told ∙ t))
+    pub search_hit : r ≡ true → some i ≡ prefix_named l
+    unfolding entry
+    search_hit t = sought_hit nothing (omega (arith, prefixes_count)) w.sought (answer ∙ t)
 
-    pub search_miss : r ≡ false → SearchingPrefixes cs l size number (i + 1)
+    pub search_miss : r ≡ false → SearchingPrefixes l size number (i + 1)
     unfolding entry
     search_miss t = record {
-      column = w.column;
       spelled = w.spelled;
-      sought = sought_miss nothing (omega (arith, prefixes_count)) w.sought (told ∙ t);
+      sought = sought_miss nothing (omega (arith, prefixes_count)) w.sought (answer ∙ t);
     }

@@ -1,61 +1,46 @@
--- One turn of the search of a quote.
-use Prim.Native.Nat.{ℕ, ◌≤◌, ◌<◌, ◌+◌}
+-- The first quote of a list: what is before it, and what is from it on.
+use Prim.Native.Nat.{ℕ, ◌+◌, ◌≤◌}
 use native.Mathlib.Omega.{arith}
-use mathlib.Core.Path.{◌≡◌, refl}
-use mathlib.Core.Bool.{true, false}
-use mathlib.Core.List.{List, [], ◌∷◌, ◌++◌, append_assoc, append-nil}
+use mathlib.Core.Path.{◌≡◌, refl, sym, ap, ◌∙◌}
+use mathlib.Core.Bool.{Bool, true, false, not}
+use mathlib.Core.List.{List, [], ◌∷◌}
 use lib.Dec.{eqb}
-use lib.ListN.{length, get_or}
-use borrow.Author.Tests.{eq-eqb, ne_eqb}
-use Rattle.label.specs.Bytes.{quote, run, past}
+use lib.ListN.{take, drop}
+use Rattle.label.specs.Bytes.{quote, run, run_on, past, past_on}
 use Rattle.label.specs.Ranges.{between}
 use Rattle.label.specs.Symbols.{unquoted}
+use Rattle.label.proofs.Between.{take_between, drop_between}
+use Rattle.slices.specs.Slices.{slice, index_of, index_after}
 use Rattle.symbols.specs.Views.{FirstQuote}
-use Rattle.label.proofs.Between.{between_none, between_cons, between_join}
 
--- no quote is from start up to i
-pub record UnquotedBefore (s : List ℕ) (start end i : ℕ) : Type 0 where
-  pub from : start ≤ i
-  pub upto : i ≤ end
-  pub before : between s start i ++ run unquoted (between s i end) ≡ run unquoted (between s start end)
-  pub after : past unquoted (between s i end) ≡ past unquoted (between s start end)
+before_quote : (l : List ℕ) → take (index_of quote l) l ≡ run unquoted l
+unfolding run index_of index_after
+before_quote [] = refl
+before_quote (c ∷ l) = go (eqb c quote) (before_quote l)
+  where
+    go : (b : Bool) → take (index_of quote l) l ≡ run unquoted l
+        → take (index_after b (index_of quote l)) (c ∷ l) ≡ run_on (not b) c (run unquoted l)
+    go true ih = refl
+    go false ih = ap (λ (t : List ℕ). c ∷ t) ih
 
-pub passed_none : (s : List ℕ) (start end : ℕ) → start ≤ end → UnquotedBefore s start end start
-passed_none s start end h = record { from = omega arith; upto = h; before = rw (between_none s start); after = refl }
+from_quote : (l : List ℕ) → drop (index_of quote l) l ≡ past unquoted l
+unfolding past index_of index_after
+from_quote [] = refl
+from_quote (c ∷ l) = go (eqb c quote) (from_quote l)
+  where
+    go : (b : Bool) → drop (index_of quote l) l ≡ past unquoted l
+        → drop (index_after b (index_of quote l)) (c ∷ l) ≡ past_on (not b) (past unquoted l) (c ∷ l)
+    go true ih = refl
+    go false ih = ih
 
-module _ {s : List ℕ} {start end i : ℕ} (l : end ≤ length s) (w : UnquotedBefore s start end i) where
-  module _ (h : i < end) where
-    pub passed_more : (get_or s i 0 ≡ quote → ⊥) → UnquotedBefore s start end (i + 1)
-    unfolding run past
-    passed_more n =
-        let e : eqb (get_or s i 0) quote ≡ false = ne_eqb (get_or s i 0) quote n in
-        let x : between s start i ++ between s i (i + 1) ≡ between s start (i + 1) = between_join s start i (i + 1) w.from (omega arith) in
-        let y : between s i (i + 1) ≡ get_or s i 0 ∷ [] = rw (between_cons s i (i + 1) (omega arith) (omega arith), between_none s (i + 1)) in
-        record {
-          from = omega (arith, w.from);
-          upto = omega arith;
-          before = rw (← x, y, append_assoc) (rw (between_cons s i end h l, e) at w.before);
-          after = rw (between_cons s i end h l, e) at w.after;
-        }
-
-    pub stopped : get_or s i 0 ≡ quote → FirstQuote s start end i
-    unfolding run past
-    stopped q =
-        let e : eqb (get_or s i 0) quote ≡ true = eq-eqb (get_or s i 0) quote q in
-        record {
-          from = w.from;
-          upto = w.upto;
-          before = rw append-nil at (rw (between_cons s i end h l, e) at w.before);
-          after = rw (between_cons s i end h l) (rw (between_cons s i end h l, e) at w.after);
-        }
-
-  pub ended : end ≤ i → FirstQuote s start end i
-  unfolding run past
-  ended h =
-      let e : i ≡ end = omega (arith, w.upto) in
-      record {
-        from = w.from;
-        upto = w.upto;
-        before = rw e (rw append-nil at (rw (between_none s end) at (rw e at w.before)));
-        after = rw (e, between_none s end) (rw (between_none s end) at (rw e at w.after));
-      }
+-- the place that a search from start up to end answers
+pub found : {s : List ℕ} {start end r : ℕ} → r ≡ start + index_of quote (slice start end s) → r ≤ end → FirstQuote s start end r
+unfolding slice
+found {s} {start} {end} {r} e h =
+    let n : ℕ = index_of quote (between s start end) in
+    record {
+      from = omega arith;
+      upto = h;
+      before = rw e (sym (take_between s start end n (omega arith)) ∙ before_quote (between s start end));
+      after = rw e (sym (drop_between s start end n) ∙ from_quote (between s start end));
+    }

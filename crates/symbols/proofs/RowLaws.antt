@@ -1,13 +1,13 @@
--- Laws of any table: a test that every row passes, the search of the first row that passes one, and what is past the end.
+-- Laws of any table: a test that every row passes, and the search of the first row that passes one.
 use Prim.Native.Nat.{ℕ, zero, suc, ◌+◌, ◌≤◌, ◌<◌}
 use native.Mathlib.Omega.{arith}
 use native.Mathlib.Numerals.{add-one}
-use mathlib.Core.Path.{◌≡◌, refl, sym}
+use mathlib.Core.Path.{◌≡◌, refl}
 use mathlib.Core.Bool.{Bool, true, false, ◌&&◌}
 use mathlib.Core.List.{List, [], ◌∷◌}
 use mathlib.Core.Option.{Option, none, some}
 use lib.Dec.{T}
-use lib.ListN.{length, drop, get_or, drop_of_length-le, get_or-eq_default}
+use lib.ListN.{length, drop, get_or, drop_of_length-le}
 use lib.Seq.{drop-cons}
 use Rattle.label.proofs.Basics.{both}
 use Rattle.label.specs.Choice.{pick}
@@ -68,9 +68,3 @@ first_none p q f i [] t g = refl
 first_none p q f i (x ∷ xs) t g =
     let w = both (q x) (every q xs) t in
     rw (g x w.0) (first_none p q f (suc i) xs w.1 g)
-
--- PAST THE END
-
--- an element outside is what is given past the end
-pub outside : {A : Type 0} (xs : List A) (i : ℕ) (d : A) → length xs ≤ i → d ≡ get_or xs i d
-outside xs i d h = sym (get_or-eq_default xs d h)

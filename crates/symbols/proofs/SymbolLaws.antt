@@ -2,44 +2,29 @@
 use Prim.Native.Nat.{ℕ, suc, ◌+◌, ◌-◌, ◌≤◌, ◌<◌}
 use native.Mathlib.Omega.{arith}
 use mathlib.Core.Path.{◌≡◌, refl, sym, ap, ◌∙◌}
-use mathlib.Core.Bool.{Bool, true, false}
+use mathlib.Core.Bool.{true}
 use mathlib.Core.List.{List, [], ◌∷◌, ◌++◌, append_assoc}
 use mathlib.Core.Option.{Option, none, some}
 use lib.Dec.{leb}
 use lib.ListN.{length, drop, length-drop, drop_of_length-le}
-use borrow.Author.Tests.{le-leb, leb-true, leb-false}
+use borrow.Author.Tests.{le-leb}
 use Rattle.label.specs.Symbols.{Symbol, known, unknown, unit_named, Cut, KnownCut, cuts, known_by, known_among, known_cuts}
 use Rattle.label.specs.Symbols.{longer, longest, by_longest, by_cut, by_whole, by_quote, unquoted, symbol}
 use Rattle.label.specs.Bytes.{run}
 use Rattle.label.specs.Prefixes.{prefix_named}
 use Rattle.label.specs.Ranges.{between}
 use Rattle.label.proofs.Between.{between_none, between_cons, length_between, take_between, drop_between}
+use Rattle.std.specs.Prelude.{Option as Answer, Some, None, IfSome}
+use Rattle.std.specs.Option.{option_or}
+use Rattle.std.proofs.lemmas.Option.{none-some, same_Some}
 use Rattle.symbols.specs.declared.PrefixCut.{PrefixCut}
 use Rattle.symbols.specs.declared.SymbolAt.{SymbolAt}
-use Rattle.symbols.specs.Views.{place, symbol_in, after_prefix, prefix_cut, unit_cut, BoundedSymbol, UpTo, LettersAt, CutAt, FirstPrefixed, FirstQuote}
+use Rattle.symbols.specs.declared.UnitAt.{UnitAt}
+use Rattle.symbols.specs.declared.UnitAt.TheVariants.{Known, Unknown}
+use Rattle.symbols.specs.Columns.{prefix_count}
+use Rattle.symbols.specs.Views.{symbol_in, unit_with, span_letters, after_prefix, prefix_cut, unit_cut, BoundedSymbol, UpTo, StartsAt, LettersOf}
+use Rattle.symbols.specs.Views.{CutBy, CutAt, cut_prefix, cut_unit, KnownAs, KnownWith, FirstQuote}
 use Rattle.symbols.proofs.CutLaws.{cut_list, two_then_one}
-
--- PLACES
-
-pub placed_none : (r : ℕ) → r ≤ 0 → place r ≡ none
-unfolding place
-placed_none r h =
-    let e : r ≡ 0 = omega arith in
-    rw e
-
--- a place that is not 0
-pub placed_at : (r : ℕ) → 0 < r → place r ≡ some (r - 1)
-unfolding place
-placed_at r h =
-    let e : r ≡ suc (r - 1) = omega arith in
-    go (r - 1) e
-  where
-    go : (k : ℕ) → r ≡ suc k → place r ≡ some k
-    go k e = rw e
-
--- letters in a part are in the whole
-pub wider : {a b y z : ℕ} {x : SymbolAt} → BoundedSymbol b y x → a ≤ b → y ≤ z → BoundedSymbol a z x
-wider w h g = record { row = w.row; from = λ e. omega (arith, w.from e); forward = w.forward; upto = omega (arith, w.upto); none = w.none }
 
 -- what a spelling stands for whose whole is unknown: prefixes p, q and units u, v after two letters and after one
 unfoldable pub chosen : List ℕ → Option ℕ → Option ℕ → Option ℕ → Option ℕ → Symbol
@@ -100,141 +85,142 @@ module _ (k : ℕ) (s : List ℕ) (start end : ℕ) (h : start ≤ end) (g : end
   unfolding prefix_cut
   some_left f = rw (drop_between s start end k, between_cons s (start + k) end (omega arith) g, take_between s start end k (omega arith))
 
-  -- a cut with no prefix
-  no_cut : prefix_cut k (between s start end) ≡ none → CutAt k s start end (record { prefix = 0; rest = start })
-  unfolding place
-  no_cut e = record { prefix_is = sym e; after = λ f. absurd (omega arith); whole = λ f. refl; from = omega arith; upto = h }
+  pub cut_short : end - start ≤ k → CutAt k s start end None
+  cut_short f = record { prefix_is = sym (none_left f); cut = tt }
 
-  pub cut_short : end - start ≤ k → CutAt k s start end (record { prefix = 0; rest = start })
-  cut_short f = no_cut (none_left f)
+  module _ (f : k < end - start) where
+    pub cut_none : none ≡ prefix_named (between s start (start + k)) → CutAt k s start end None
+    cut_none e = record { prefix_is = e ∙ sym (some_left f); cut = tt }
 
-  module _ (f : k < end - start) (p : ℕ) (e : place p ≡ prefix_named (between s start (start + k))) where
-    pub cut_other : p ≡ 0 → CutAt k s start end (record { prefix = 0; rest = start })
-    unfolding place
-    cut_other z = no_cut (some_left f ∙ sym e ∙ ap place z)
-
-    pub cut_prefix : (p ≡ 0 → ⊥) → CutAt k s start end (record { prefix = p; rest = start + k })
-    cut_prefix z = record {
+    pub cut_some : {p : ℕ} → some p ≡ prefix_named (between s start (start + k)) → p < prefix_count
+        → CutAt k s start end (Some (record { prefix = p; rest = record { start = start + k; end = end } }))
+    cut_some e b = record {
       prefix_is = e ∙ sym (some_left f);
-      after = λ x. refl;
-      whole = λ x. absurd (z (omega arith));
-      from = omega arith;
-      upto = omega arith;
+      cut = record { place = b; first = refl; forward = omega arith; last = refl };
     }
 
--- what follows a prefix counts
-pub with_prefix : (p : ℕ) → (p ≡ 0 → ⊥) → (o : Option ℕ) → o ≡ after_prefix (place p) o
-with_prefix p z o = rw (placed_at p (omega arith))
+-- the letters after a cut
+rest_is : {k : ℕ} (s : List ℕ) {start end : ℕ} {c : PrefixCut} → CutBy k start end c → drop k (between s start end) ≡ span_letters s c.rest
+rest_is {k} s {start} {end} w = rw (w.first, w.last) (drop_between s start end k)
 
--- the unit after a cut, of which u is one more than the row
-unit_after_cut : (n : ℕ) {k : ℕ} {s : List ℕ} {start end : ℕ} {r : PrefixCut} → CutAt k s start end r → (u : ℕ)
-    → place u ≡ after_prefix (place r.prefix) (unit_named n (between s r.rest end)) → place u ≡ unit_cut n k (between s start end)
+-- the unit after a cut
+unit_after : (n : ℕ) {k : ℕ} {s : List ℕ} {start end : ℕ} {r : Answer PrefixCut} → CutAt k s start end r
+    → unit_cut n k (between s start end) ≡ cut_unit n s r
 unfolding unit_cut
-unit_after_cut n {k} {s} {start} {end} {r} w u e = e ∙ go (leb r.prefix 0) refl
+unit_after n {r = None} w = rw (← w.prefix_is)
+unit_after n {s = s} {r = Some c} w = rw (← w.prefix_is, rest_is s w.cut)
+
+-- a known symbol has no letters
+pub known_bounded : (start end : ℕ) {p o : Option ℕ} {x : SymbolAt} → KnownWith p o x → BoundedSymbol start end x × UpTo end x.unit
+known_bounded start end {p} {o} {x} w = (w.bounded start end, go x.unit w.unit_is)
   where
-    go : (x : Bool) → leb r.prefix 0 ≡ x
-        → after_prefix (place r.prefix) (unit_named n (between s r.rest end)) ≡ after_prefix (prefix_cut k (between s start end)) (unit_named n (drop k (between s start end)))
-    go true f = rw (← w.prefix_is, placed_none r.prefix (leb-true r.prefix 0 f))
-    go false f = rw (← w.prefix_is, drop_between s start end k, w.after (leb-false r.prefix 0 f))
+    go : (u : UnitAt) → KnownAs o u → UpTo end u
+    go (Known u) e = tt
+    go (Unknown l) e = elim e [ ]
 
 -- THE CHOICE
 
-module _ (n : ℕ) {s : List ℕ} {start end : ℕ} {two : PrefixCut} (a : CutAt 2 s start end two) (u : ℕ)
-    (d : place u ≡ after_prefix (place two.prefix) (unit_named n (between s two.rest end))) where
-  pub first_known : 0 < u → known (place two.prefix) (u - 1) ≡ by_cut (between s start end) (known_cuts n (between s start end))
+-- a known symbol in the label s
+known_in : (s : List ℕ) {p o : Option ℕ} {x : SymbolAt} (y : Symbol) → KnownWith p o x → ((u : ℕ) → o ≡ some u → known p u ≡ y) → symbol_in s x ≡ y
+unfolding symbol_in
+known_in s {p} {o} {x} y w f = rw w.prefix_is (go x.unit w.unit_is)
+  where
+    go : (u : UnitAt) → KnownAs o u → unit_with s p u ≡ y
+    go (Known u) e = f u e
+    go (Unknown l) e = elim e [ ]
+
+module _ (n : ℕ) {s : List ℕ} {start end : ℕ} {two : Answer PrefixCut} (a : CutAt 2 s start end two) where
+  -- what it stands for by its cut after two letters
+  by_two : by_cut (between s start end) (known_cuts n (between s start end))
+      ≡ chosen (between s start end) (cut_prefix two) (cut_unit n s two) (prefix_cut 1 (between s start end)) (unit_cut n 1 (between s start end))
+  by_two = by_cut_is n (between s start end) ∙ rw (← a.prefix_is, unit_after n a)
+
+  pub first_known : {x : SymbolAt} → KnownWith (cut_prefix two) (cut_unit n s two) x
+      → symbol_in s x ≡ by_cut (between s start end) (known_cuts n (between s start end))
   unfolding chosen
-  first_known h = sym (by_cut_is n (between s start end) ∙ rw (← a.prefix_is, ← unit_after_cut n a u d, placed_at u h))
+  first_known w = known_in s _ w (λ u e. sym (by_two ∙ rw e))
 
-  module _ (z : u ≤ 0) {one : PrefixCut} (b : CutAt 1 s start end one) (v : ℕ)
-      (e : place v ≡ after_prefix (place one.prefix) (unit_named n (between s one.rest end))) where
-    chosen_is : by_cut (between s start end) (known_cuts n (between s start end))
-        ≡ chosen (between s start end) (place two.prefix) none (place one.prefix) (place v)
-    chosen_is =
-        by_cut_is n (between s start end)
-        ∙ rw (← a.prefix_is, ← unit_after_cut n a u d, ← b.prefix_is, ← unit_after_cut n b v e, placed_none u z)
+  module _ (z : cut_unit n s two ≡ none) {one : Answer PrefixCut} (b : CutAt 1 s start end one) where
+    -- and by both
+    by_both : by_cut (between s start end) (known_cuts n (between s start end))
+        ≡ chosen (between s start end) (cut_prefix two) none (cut_prefix one) (cut_unit n s one)
+    by_both = by_two ∙ rw (z, ← b.prefix_is, unit_after n b)
 
-    pub second_known : 0 < v → known (place one.prefix) (v - 1) ≡ by_cut (between s start end) (known_cuts n (between s start end))
+    pub second_known : {x : SymbolAt} → KnownWith (cut_prefix one) (cut_unit n s one) x
+        → symbol_in s x ≡ by_cut (between s start end) (known_cuts n (between s start end))
     unfolding chosen
-    second_known h = sym (chosen_is ∙ rw (placed_at v h))
+    second_known w = known_in s _ w (λ u e. sym (by_both ∙ rw e))
 
-    module _ (y : v ≤ 0) where
-      first_unknown : 0 < two.prefix
-          → unknown (place two.prefix) (between s two.rest end) ≡ by_cut (between s start end) (known_cuts n (between s start end))
-      unfolding chosen
-      first_unknown h = sym (chosen_is ∙ rw (placed_none v y, placed_at two.prefix h, drop_between s start end 2, a.after h))
+    -- the unknown symbol with the first prefix that there is
+    module _ (y : cut_unit n s one ≡ none) where
+      by_none : by_cut (between s start end) (known_cuts n (between s start end))
+          ≡ chosen (between s start end) (cut_prefix two) none (cut_prefix one) none
+      by_none = by_both ∙ rw y
 
-      second_unknown : two.prefix ≤ 0 → 0 < one.prefix
-          → unknown (place one.prefix) (between s one.rest end) ≡ by_cut (between s start end) (known_cuts n (between s start end))
-      unfolding chosen
-      second_unknown x h =
-          sym (chosen_is ∙ rw (placed_none v y, placed_none two.prefix x, placed_at one.prefix h, drop_between s start end 1, b.after h))
+-- of two cuts the first that there is, or the whole
+unknown_chosen : (s : List ℕ) (start end : ℕ) (two one : Answer PrefixCut) → IfSome two (CutBy 2 start end) → IfSome one (CutBy 1 start end)
+    → (c : PrefixCut) → option_or two one ≡ Some c
+    → unknown (some c.prefix) (span_letters s c.rest) ≡ chosen (between s start end) (cut_prefix two) none (cut_prefix one) none
+unfolding chosen
+unknown_chosen s start end (Some d) None a b c e = rw (← same_Some d c e, rest_is s a)
+unknown_chosen s start end (Some d) (Some f) a b c e = rw (← same_Some d c e, rest_is s a)
+unknown_chosen s start end None (Some d) a b c e = rw (← same_Some d c e, rest_is s b)
+unknown_chosen s start end None None a b c e = absurd (none-some c e)
 
-      neither : two.prefix ≤ 0 → one.prefix ≤ 0
-          → unknown (place one.prefix) (between s one.rest end) ≡ by_cut (between s start end) (known_cuts n (between s start end))
-      unfolding chosen
-      neither x w = sym (chosen_is ∙ rw (placed_none v y, placed_none two.prefix x, placed_none one.prefix w, b.whole w))
+whole_chosen : (l : List ℕ) (two one : Answer PrefixCut) → option_or two one ≡ None
+    → unknown none l ≡ chosen l (cut_prefix two) none (cut_prefix one) none
+unfolding chosen
+whole_chosen l None None e = refl
+whole_chosen l None (Some d) e = absurd (none-some d (sym e))
+whole_chosen l (Some d) one e = absurd (none-some d (sym e))
 
-      -- the unknown symbol with the first prefix that there is
-      pub unknown_by_cut : {r : SymbolAt} → FirstPrefixed two one end r
-          → symbol_in s r ≡ by_cut (between s start end) (known_cuts n (between s start end))
-      unknown_by_cut {r} w = go (leb two.prefix 0) refl (leb one.prefix 0) refl
-        where
-          go : (x : Bool) → leb two.prefix 0 ≡ x → (y : Bool) → leb one.prefix 0 ≡ y
-              → symbol_in s r ≡ by_cut (between s start end) (known_cuts n (between s start end))
-          go false f t g = let h = leb-false two.prefix 0 f in w.first h s ∙ first_unknown h
-          go true f false g = let h = leb-true two.prefix 0 f in w.second h s ∙ second_unknown h (leb-false one.prefix 0 g)
-          go true f true g = let h = leb-true two.prefix 0 f in w.second h s ∙ neither h (leb-true one.prefix 0 g)
+module _ (n : ℕ) {s : List ℕ} {start end : ℕ} {two one : Answer PrefixCut} (a : CutAt 2 s start end two) (z : cut_unit n s two ≡ none)
+    (b : CutAt 1 s start end one) (y : cut_unit n s one ≡ none) where
+  pub unknown_cut : {c : PrefixCut} → option_or two one ≡ Some c
+      → unknown (some c.prefix) (span_letters s c.rest) ≡ by_cut (between s start end) (known_cuts n (between s start end))
+  unknown_cut {c} e = unknown_chosen s start end two one a.cut b.cut c e ∙ sym (by_none n a z b y)
+
+  pub unknown_whole : option_or two one ≡ None
+      → unknown none (between s start end) ≡ by_cut (between s start end) (known_cuts n (between s start end))
+  unknown_whole e = whole_chosen (between s start end) two one e ∙ sym (by_none n a z b y)
 
 -- THE WHOLE
 
-module _ (n : ℕ) (l : List ℕ) (w : ℕ) (e : place w ≡ unit_named n l) where
-  pub whole_known : 0 < w → known (place 0) (w - 1) ≡ by_whole n l (unit_named n l)
-  unfolding place by_whole
-  whole_known h = rw (← e, placed_at w h)
+pub whole_known : (n : ℕ) (l : List ℕ) {u : ℕ} → some u ≡ unit_named n l → known none u ≡ by_whole n l (unit_named n l)
+unfolding by_whole
+whole_known n l e = rw (← e)
 
-  pub whole_other : w ≤ 0 → by_cut l (known_cuts n l) ≡ by_whole n l (unit_named n l)
-  unfolding by_whole
-  whole_other h = rw (← e, placed_none w h)
+pub whole_other : (n : ℕ) (l : List ℕ) → none ≡ unit_named n l → by_cut l (known_cuts n l) ≡ by_whole n l (unit_named n l)
+unfolding by_whole
+whole_other n l e = rw (← e)
 
 -- QUOTES
 
--- r is the symbol that the bytes of s from start up to end spell, and its letters are among them
-abbrev SpelledBy : ℕ → List ℕ → ℕ → ℕ → SymbolAt → Type 0
-SpelledBy n s start end r =
-    (symbol_in s r ≡ symbol n (between s start end))
-    × (BoundedSymbol start end r × (r.known ≡ false → LettersAt s start end r.start r.end))
-
 -- the first quote is at q, or there is none and q is the end
 module _ (n : ℕ) {s : List ℕ} {start end q : ℕ} (g : end ≤ length s) (w : FirstQuote s start end q) where
-  symbol_quoted : q < end → unknown (prefix_named (between s start q)) (run unquoted (between s (q + 1) end)) ≡ symbol n (between s start end)
+  pub symbol_quoted : q < end → unknown (prefix_named (between s start q)) (run unquoted (between s (q + 1) end)) ≡ symbol n (between s start end)
   unfolding symbol by_quote
   symbol_quoted h = rw (← w.after, ← w.before, between_cons s q end h g)
 
-  symbol_plain : end ≤ q → by_whole n (between s start end) (unit_named n (between s start end)) ≡ symbol n (between s start end)
+  pub symbol_plain : end ≤ q → by_whole n (between s start end) (unit_named n (between s start end)) ≡ symbol n (between s start end)
   unfolding symbol by_quote
   symbol_plain h =
       let e : q ≡ end = omega (arith, w.upto) in
       rw (← w.after, e, between_none s end)
 
-  letters_quoted : q < end → {first : ℕ} (last : ℕ) → first ≡ q + 1 → LettersAt s start end first last
-  letters_quoted h last e = record {
+  pub letters_quoted : q < end → (u : UnitAt) → StartsAt (q + 1) u → LettersOf s start end u
+  letters_quoted h (Known u) e = tt
+  letters_quoted h (Unknown l) e = record {
     quoted = λ c t z. let k = length_between s start q (omega (arith, w.upto)) in rw (← w.before) (omega arith);
     plain = λ z. let k : suc (length (between s (q + 1) end)) ≡ 0 = ap length (sym (between_cons s q end h g) ∙ w.after ∙ z) in absurd (omega arith);
   }
 
-  letters_plain : end ≤ q → (first : ℕ) {last : ℕ} → last ≡ end → LettersAt s start end first last
-  letters_plain h first e = record {
+  pub letters_plain : end ≤ q → (u : UnitAt) → UpTo end u → LettersOf s start end u
+  letters_plain h (Known u) e = tt
+  letters_plain h (Unknown l) e = record {
     quoted = λ c t z.
         let i : q ≡ end = omega (arith, w.upto) in
         let k : 0 ≡ suc (length t) = ap length (sym (between_none s end) ∙ rw i at w.after ∙ z) in
         absurd (omega arith);
     plain = λ z. e;
   }
-
-  pub with_quote : q < end → {r : SymbolAt} → symbol_in s r ≡ unknown (prefix_named (between s start q)) (run unquoted (between s (q + 1) end))
-      → BoundedSymbol start end r × (r.start ≡ q + 1) → SpelledBy n s start end r
-  with_quote h {r} e b = (e ∙ symbol_quoted h, (b.0, λ _. letters_quoted h r.end b.1))
-
-  pub without_quote : end ≤ q → {r : SymbolAt} → symbol_in s r ≡ by_whole n (between s start end) (unit_named n (between s start end))
-      → BoundedSymbol start end r × UpTo end r → SpelledBy n s start end r
-  without_quote h {r} e b = (e ∙ symbol_plain h, (b.0, λ f. letters_plain h r.start (b.1.last f)))

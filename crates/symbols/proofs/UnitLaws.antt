@@ -23,10 +23,9 @@ use Rattle.label.proofs.Basics.{all_below}
 use Rattle.symbols.specs.Sets.{bits, has_bit}
 use Rattle.symbols.specs.Slots.{unused, slot, prime_at, prime_slot, four_each, adds}
 use Rattle.symbols.specs.Columns.{unit_count, prefix_powers, unit_prefixed, unit_recommended, unit_bases, unit_powers, unit_primes}
-use Rattle.symbols.specs.Views.{place, slot_in}
+use Rattle.symbols.specs.Views.{slot_in}
 use Rattle.symbols.proofs.Computing.{columns_compute}
 use Rattle.symbols.proofs.SetLaws.{alike, told_by_bits, bit_member}
-use Rattle.symbols.proofs.SymbolLaws.{placed_at}
 use Rattle.symbols.proofs.RowLaws.{every, every_at}
 
 -- what is past the end
@@ -114,13 +113,9 @@ no_prime_slot k h = ap (prime_slot k) past_units ∙ no_primes k h
 
 -- PREFIXES
 
-tens_at : (i : ℕ) → get_or prefix_powers i (pos 0) ≡ (power_of (some i)).0
+pub tens_at : (i : ℕ) → get_or prefix_powers i (pos 0) ≡ (power_of (some i)).0
 unfolding prefix_powers
 tens_at i = get_or-map (λ (p : Prefix). p.power.0) prefixes i (prefix "" (pos 0))
-
--- the power of a prefix by its place
-pub tens_placed : {ps : List ℤ} (p : ℕ) → ps ≡ prefix_powers → (p ≡ 0 → ⊥) → get_or ps (p - 1) (pos 0) ≡ (power_of (place p)).0
-tens_placed p e h = rw (e, placed_at p (omega arith)) (tens_at (p - 1))
 
 -- ten holds 2 and 5, the primes at even places, and neither 3 nor 487
 pub odd_prime : (k : ℕ) → k < 4 → k % 2 ≡ 1 → (t : Tens) → pos 0 ≡ in_tens (prime_at k) t
@@ -173,8 +168,8 @@ mag_sum (negsuc a) (pos b) = omega (arith, difference b a)
 mag_sum (negsuc a) (negsuc b) = omega arith
 
 -- a small number is held as itself
-pub byte_fits : {z : ℤ} → mag z < 128 → SFits w8 z
-byte_fits h = record { sfits = h }
+pub byte_held : {z : ℤ} → mag z < 128 → to_z w8 (of_z w8 z) ≡ z
+byte_held h = to_z-of_z {w = w8} (record { sfits = h })
 
 pub small_fits : {z : ℤ} → mag z ≤ 53 → SFits w32 z
 small_fits h = record { sfits = omega arith }

@@ -1,11 +1,12 @@
--- The columns of the tables, derived from the tables of label/specs, and what it is to be lent them.
-use Rattle.std.specs.Prelude.{ℕ, ◌+◌, ◌*◌, ◌≡◌, Bool, List, map, ℤ, length}
+-- The columns of the tables, derived from the tables of label/specs.
+use Rattle.std.specs.Prelude.{ℕ, ◌+◌, ◌*◌, ◌/◌, ◌%◌, ◌≡◌, Bool, List, map, ℤ, length, get_or}
 use Rattle.label.specs.Prefixes.{Prefix, prefixes}
 use Rattle.label.specs.Units.{KnownUnit, units}
 use Rattle.symbols.specs.Keys.{key_of}
 use Rattle.symbols.specs.Sets.{bits}
 use Rattle.symbols.specs.Names.{Entry, names}
 use Rattle.symbols.specs.Slots.{slot, prime_slot, four_each}
+use Rattle.symbols.specs.declared.unit_table.Name.{Name}
 
 -- HOW MANY THERE ARE
 
@@ -31,10 +32,12 @@ name_code x = (length x.letters * 256 + bits x.known_in) * 256 + x.unit
 unfoldable pub name_codes : List ℕ
 name_codes = map name_code names
 
--- the two columns of names
-pub record NameColumns (keys codes : List ℕ) : Type 0 where
-  pub keys_are : keys ≡ name_keys
-  pub codes_are : codes ≡ name_codes
+-- the name at place i, as the two columns have it
+pub record NameAt (i : ℕ) (x : Name) : Type 0 where
+  pub key_is : x.key ≡ get_or name_keys i 0
+  pub size_is : x.size ≡ get_or name_codes i 0 / 65536
+  pub set_is : x.known_in ≡ get_or name_codes i 0 / 256 % 256
+  pub unit_is : x.unit ≡ get_or name_codes i 0 % 256
 
 -- PREFIXES
 

@@ -1,15 +1,16 @@
 // The columns of the bases of each unit and of their powers, derived from the tables of label/specs.
-// A column is made anew at each call: take it once for a label, and lend it.
-ghost use Rattle.std.specs.Prelude.{◌≡◌};
+ghost use Rattle.std.specs.Prelude.{◌≡◌, pos, get_or};
 ghost use Rattle.symbols.specs.Columns.{unit_bases, unit_powers};
 
+use crate::columns::element;
 use crate::unit_table::UNITS;
 
 // How many bases a unit may have.
 pub const SLOTS: usize = 4;
 
-// The bases of each unit, in four slots. An unused slot has base 0.
-const UNIT_BASES: [u8; UNITS * SLOTS] = [
+// The bases of each unit, in four slots. An unused slot has base 0. The column is flat, as the list of specs/Columns.antt is that it is
+// computed from.
+static UNIT_BASES: [u8; UNITS * SLOTS] = [
     0, 0, 0, 0, // m
     1, 0, 0, 0, // g
     2, 0, 0, 0, // s
@@ -74,7 +75,7 @@ const UNIT_BASES: [u8; UNITS * SLOTS] = [
 ];
 
 // The powers of these bases. An unused slot has power 0.
-const UNIT_POWERS: [i8; UNITS * SLOTS] = [
+static UNIT_POWERS: [i8; UNITS * SLOTS] = [
     1, 0, 0, 0, // m
     1, 0, 0, 0, // g
     1, 0, 0, 0, // s
@@ -138,14 +139,18 @@ const UNIT_POWERS: [i8; UNITS * SLOTS] = [
     0, 0, 0, 0, // %
 ];
 
-pub fn unit_bases() -> [u8; UNITS * SLOTS]
-    ensures { result ≡ unit_bases }
+// The base at that place of the column, 0 past the last.
+#[tactic(auto, unfolding(crate::proofs::Computing::columns_compute))]
+pub(crate) fn unit_base(place: usize) -> u8
+    ensures { result ≡ get_or unit_bases place 0 }
 {
-    UNIT_BASES
+    element(&UNIT_BASES, place, 0)
 }
 
-pub fn unit_powers() -> [i8; UNITS * SLOTS]
-    ensures { result ≡ unit_powers }
+// The power at that place of the column, 0 past the last.
+#[tactic(auto, using(crate::proofs::UnitLaws::byte_held), unfolding(crate::proofs::Computing::columns_compute))]
+pub(crate) fn unit_power(place: usize) -> i8
+    ensures { result ≡ get_or unit_powers place (pos 0) }
 {
-    UNIT_POWERS
+    element(&UNIT_POWERS, place, 0)
 }

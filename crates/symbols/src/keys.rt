@@ -1,11 +1,11 @@
 // Spellings as numbers: their keys, their comparison with a symbol of a table, sets of notations; and where a spelling has a quote.
-ghost use Rattle.std.specs.Prelude.{◌≡◌, ◌≤◌, ◌-◌, length};
-ghost use Rattle.label.specs.Ranges.{between};
+ghost use Rattle.std.specs.Prelude.{◌≡◌, ◌≤◌, length};
 ghost use Rattle.symbols.specs.Keys.{key_of, letter_at, spelling, agrees, pairs_looked_at, most_letters};
 ghost use Rattle.symbols.specs.Sets.{has_bit};
 ghost use Rattle.symbols.specs.Views.{FirstQuote};
 
 use crate::Comparison;
+use slices::find;
 
 // How many letters a key can hold.
 pub const MOST_LETTERS: usize = 8;
@@ -18,18 +18,14 @@ pub const TWO_BYTES: u32 = 256 * ONE_BYTE;
 // The largest number of a notation that a set can have.
 const MOST_NOTATIONS: u8 = 8;
 
-// The bytes from `start` up to `end` as one number in base 256, the first byte highest.
-pub fn key(s: &[u8], start: usize, end: usize) -> u64
-    requires start_le_end { (start ≤ end) × (end ≤ length s.now) }
-    requires start_bound { end - start ≤ most_letters }
-    ensures { result ≡ key_of (between s.now start end) }
+// The bytes of a spelling as one number in base 256, the first byte highest.
+pub fn key(spelling: &[u8]) -> u64
+    requires { length spelling.now ≤ most_letters }
+    ensures { result ≡ key_of spelling.now }
 {
-    let mut number: u64 = 0;
-    let mut i = start;
-    while i < end {
-        let byte = s[i] as u64;
-        number = number * 256 + byte;
-        i += 1;
+    let mut number = 0;
+    for byte in spelling {
+        number = number * 256 + u64::from(*byte);
     }
     number
 }
@@ -56,31 +52,27 @@ pub fn compare(size: usize, number: u64, symbol_size: usize, symbol_number: u64)
             pairs: 0,
         };
     }
-    let mut pairs = 0;
-    while pairs < size {
+    // The number of pairs is part of the answer, so the loop counts.
+    for pairs in 0..size {
         let after = size - pairs - 1;
-        pairs += 1;
         if letter(number, after) != letter(symbol_number, after) {
             return Comparison {
                 equal: false,
-                pairs,
+                pairs: pairs + 1,
             };
         }
     }
-    Comparison { equal: true, pairs }
+    Comparison {
+        equal: true,
+        pairs: size,
+    }
 }
 
-// Whether `n` is a notation of the set. A set is a byte.
+// Whether `n` is a notation of the set. A set is a byte, a bit for each notation, as the tables have it.
 pub fn has_notation(n: u8, set: u8) -> bool
     ensures { result ≡ has_bit n set }
 {
-    if n < 1 {
-        return false;
-    }
-    if MOST_NOTATIONS < n {
-        return false;
-    }
-    (set >> (n - 1)) % 2 == 1
+    1 <= n && n <= MOST_NOTATIONS && (set >> (n - 1)) % 2 == 1
 }
 
 // Where the first quote from `start` up to `end` is, or `end`.
@@ -88,12 +80,5 @@ pub fn first_quote(s: &[u8], start: usize, end: usize) -> usize
     requires { (start ≤ end) × (end ≤ length s.now) }
     ensures { FirstQuote s.now start end result }
 {
-    let mut i = start;
-    while i < end {
-        if s[i] == b'\'' {
-            return i;
-        }
-        i += 1;
-    }
-    i
+    find(s, start, end, b'\'')
 }

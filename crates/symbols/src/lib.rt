@@ -1,6 +1,7 @@
-// Spellings of units: constant tables of prefixes and known units, and the symbol that a spelling stands for.
+// Spellings of units: tables of prefixes and known units, and the symbol that a spelling stands for.
 #![tactic(auto)]
 
+mod columns;
 pub mod dimension_table;
 pub mod groups;
 pub mod keys;
@@ -11,37 +12,36 @@ pub mod size_table;
 pub mod unit_table;
 
 // What a spelling stands for.
-#[derive(Clone, Copy)]
+#[derive(Clone, Copy, PartialEq, Eq)]
 pub struct SymbolAt {
-    // Whether its unit is known.
-    pub known: bool,
-    // One more than the place of its prefix in the table of prefixes; 0 without a prefix.
-    pub prefix: u8,
-    // The row of a known unit in the table of units.
-    pub unit: u8,
-    // Where the letters of an unknown unit start and end in the label; 0 for a known one.
-    pub start: usize,
-    pub end: usize,
+    // The place of its prefix in the table of prefixes, if it has one.
+    pub prefix: Option<u8>,
+    pub unit: UnitAt,
 }
 
-// The bytes of a label from `start` up to `end`.
-#[derive(Clone, Copy)]
+// A unit: the row of a known one in the table of units, or the letters of an unknown one in the label.
+#[derive(Clone, Copy, PartialEq, Eq)]
+pub enum UnitAt {
+    Known(u8),
+    Unknown(Span),
+}
+
+// The bytes of a label from `start` up to `end`. It is no `DigitRange` of crate label: the definitions of label/specs speak of digits by that.
+#[derive(Clone, Copy, PartialEq, Eq)]
 pub struct Span {
     pub start: usize,
     pub end: usize,
 }
 
-// A spelling cut after its first letters.
+// A spelling cut after its first letters: the prefix that they are, and what follows it.
 #[derive(Clone, Copy)]
 pub struct PrefixCut {
-    // One more than the place of the prefix that these letters are; 0 where they are none or nothing follows them.
     pub prefix: u8,
-    // Where the rest starts: after the prefix, or where the spelling starts if there is none.
-    pub rest: usize,
+    pub rest: Span,
 }
 
-// What the comparison of a spelling with a symbol of a table tells.
-#[derive(Clone, Copy)]
+// What the comparison of a spelling with a symbol of a table tells: both facts are promised of every comparison.
+#[derive(Clone, Copy, PartialEq, Eq)]
 pub struct Comparison {
     // Whether they have the same letters.
     pub equal: bool,

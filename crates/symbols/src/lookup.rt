@@ -1,53 +1,50 @@
-// The lookup of a spelling by the rule of the first fit. The columns of the tables are lent by the caller.
-ghost use Rattle.std.specs.Prelude.{◌≡◌, false, ◌&&◌, List, ℕ, ◌≤◌, ◌<◌, ◌+◌, ◌-◌, ◌/◌, ◌%◌, length};
+// The lookup of a spelling by the rule of the first fit.
+// A function whose answer holds places of the label takes the label and a span of it. One that answers no place takes the spelling itself.
+ghost use Rattle.std.specs.Prelude.{◌≡◌, ◌&&◌, ◌≤◌, ◌<◌, ◌+◌, ◌/◌, ◌%◌, length, IfSome};
 ghost use Rattle.label.specs.Bytes.{run};
+ghost use Rattle.label.specs.Options.{told};
 ghost use Rattle.label.specs.Ranges.{between};
 ghost use Rattle.label.specs.Prefixes.{prefix_named};
-ghost use Rattle.label.specs.Symbols.{known, unknown, unit_named, known_cuts, by_cut, by_whole, unquoted, symbol};
+ghost use Rattle.label.specs.Symbols.{unknown, unit_named, known_cuts, by_cut, by_whole, unquoted, symbol};
+ghost use Rattle.symbols.specs.Columns.{prefix_count};
 ghost use Rattle.symbols.specs.Keys.{agrees};
 ghost use Rattle.symbols.specs.Sets.{has_bit};
-ghost use Rattle.symbols.specs.Columns.{NameColumns, prefix_codes};
-ghost use Rattle.symbols.specs.Views.{place, symbol_in, BoundedSymbol, UpTo, LettersAt, after_prefix, CutAt, FirstPrefixed};
+ghost use Rattle.symbols.specs.Views.{symbol_in, BoundedSymbol, UpTo, StartsAt, LettersOf, CutAt, cut_prefix, cut_unit, KnownBy};
 
 use crate::groups::first_in_group;
-use crate::keys::{MOST_LETTERS, ONE_BYTE, TWO_BYTES, compare, first_quote, has_notation, key};
-use crate::prefix_table::PREFIXES;
-use crate::unit_table::NAMES;
-use crate::{PrefixCut, Span, SymbolAt};
+use crate::keys::{MOST_LETTERS, TWO_BYTES, compare, first_quote, has_notation, key};
+use crate::prefix_table::{PREFIXES, prefix_code};
+use crate::unit_table::{NAMES, Name, nth_name};
+use crate::{PrefixCut, Span, SymbolAt, UnitAt};
 
 // In how many groups the keys of the names are.
 const GROUPS: u64 = 147;
 
-// Whether notation `n` knows a spelling by the name of that key and code.
-pub fn is_name(n: u8, size: usize, number: u64, key: u64, code: u32) -> bool
-    ensures { result ≡ (agrees size number (code / 65536) key && has_bit n (code / 256 % 256)) }
+// Whether notation `n` knows a spelling by that name.
+pub fn is_name(n: u8, size: usize, number: u64, name: Name) -> bool
+    ensures { result ≡ (agrees size number name.size name.key && has_bit n name.known_in) }
 {
-    if compare(size, number, (code / TWO_BYTES) as usize, key).equal {
-        return has_notation(n, (code / ONE_BYTE % ONE_BYTE) as u8);
-    }
-    false
+    compare(size, number, name.size, name.key).equal && has_notation(n, name.known_in)
 }
 
-// One more than the row of the unit that notation `n` knows by the spelling from `start` up to `end`, or 0.
-pub fn unit_named(keys: &[u64], codes: &[u32], n: u8, s: &[u8], start: usize, end: usize) -> u8
-    requires name_columns { NameColumns keys.now codes.now }
-    requires start_le_end { (start ≤ end) × (end ≤ length s.now) }
-    ensures { place result ≡ unit_named n (between s.now start end) }
+// The row of the unit that notation `n` knows by that spelling.
+pub fn unit_named(n: u8, spelling: &[u8]) -> Option<u8>
+    ensures is { told result ≡ unit_named n spelling.now }
+    ensures row { IfSome result (λ u. u < 255) }
 {
-    let size = end - start;
+    let size = spelling.len();
     if MOST_LETTERS < size {
-        return 0;
+        return None;
     }
-    let number = key(s, start, end);
-    let mut i = first_in_group(number % GROUPS) as usize;
-    while i < NAMES {
-        let code = codes[i];
-        if is_name(n, size, number, keys[i], code) {
-            return (code % ONE_BYTE) as u8 + 1;
+    let number = key(spelling);
+    let first = usize::from(first_in_group(number % GROUPS));
+    for i in first..NAMES {
+        let name = nth_name(i);
+        if is_name(n, size, number, name) {
+            return Some(name.unit);
         }
-        i += 1;
     }
-    0
+    None
 }
 
 // Whether a spelling is the prefix of that code.
@@ -58,190 +55,131 @@ fn is_prefix(size: usize, number: u64, code: u32) -> bool
         size,
         number,
         (code / TWO_BYTES) as usize,
-        (code % TWO_BYTES) as u64,
+        u64::from(code % TWO_BYTES),
     )
     .equal
 }
 
-// One more than the place of the prefix that the spelling from `start` up to `end` is, or 0.
-pub fn prefix_named(prefixes: &[u32], s: &[u8], start: usize, end: usize) -> u8
-    requires prefixes_value { prefixes.now ≡ prefix_codes }
-    requires start_le_end { (start ≤ end) × (end ≤ length s.now) }
-    ensures { place result ≡ prefix_named (between s.now start end) }
+// The place of the prefix that a spelling is.
+pub fn prefix_named(spelling: &[u8]) -> Option<u8>
+    ensures is { told result ≡ prefix_named spelling.now }
+    ensures place { IfSome result (λ p. p < prefix_count) }
 {
-    let size = end - start;
+    let size = spelling.len();
     if MOST_LETTERS < size {
-        return 0;
+        return None;
     }
-    let number = key(s, start, end);
-    let mut i = 0;
-    while i < PREFIXES {
-        if is_prefix(size, number, prefixes[i]) {
-            return i as u8 + 1;
+    let number = key(spelling);
+    for i in 0..PREFIXES {
+        if is_prefix(size, number, prefix_code(i)) {
+            return Some(i as u8);
         }
-        i += 1;
     }
-    0
-}
-
-// A known symbol. `unit` is one more than the row of its unit.
-fn known_symbol(prefix: u8, unit: u8) -> SymbolAt
-    requires { 0 < unit }
-    ensures by_index { (s : List ℕ) → symbol_in s result ≡ known (place prefix) (unit - 1) }
-    ensures by_index_2 { (start end : ℕ) → BoundedSymbol start end result × UpTo end result }
-{
-    SymbolAt {
-        known: true,
-        prefix,
-        unit: unit - 1,
-        start: 0,
-        end: 0,
-    }
-}
-
-// An unknown symbol, whose letters are from `start` up to `end`.
-fn unknown_symbol(prefix: u8, start: usize, end: usize) -> SymbolAt
-    requires { start ≤ end }
-    ensures by_index { (s : List ℕ) → symbol_in s result ≡ unknown (place prefix) (between s start end) }
-    ensures bounded_symbol { BoundedSymbol start end result × ((result.start ≡ start) × (result.end ≡ end)) }
-{
-    SymbolAt {
-        known: false,
-        prefix,
-        unit: 0,
-        start,
-        end,
-    }
+    None
 }
 
 // The prefix that the first `count` letters of a spelling are, where letters follow them.
-fn cut(prefixes: &[u32], s: &[u8], span: Span, count: usize) -> PrefixCut
-    requires prefixes_value { prefixes.now ≡ prefix_codes }
-    requires start_le_end { (span.start ≤ span.end) × (span.end ≤ length s.now) }
+fn cut(s: &[u8], span: Span, count: usize) -> Option<PrefixCut>
+    requires { (span.start ≤ span.end) × (span.end ≤ length s.now) }
     ensures { CutAt count s.now span.start span.end result }
 {
     if span.end - span.start <= count {
-        return PrefixCut {
-            prefix: 0,
-            rest: span.start,
-        };
+        return None;
     }
     let middle = span.start + count;
-    let prefix = prefix_named(prefixes, s, span.start, middle);
-    if prefix == 0 {
-        return PrefixCut {
-            prefix: 0,
-            rest: span.start,
-        };
-    }
-    PrefixCut {
-        prefix,
-        rest: middle,
-    }
+    let prefix = prefix_named(&s[span.start..middle])?;
+    let rest = Span {
+        start: middle,
+        end: span.end,
+    };
+    Some(PrefixCut { prefix, rest })
 }
 
-// One more than the row of the unit that the letters after a prefix name, or 0. Without a prefix it is 0.
-fn unit_after(keys: &[u64], codes: &[u32], n: u8, s: &[u8], cut: PrefixCut, end: usize) -> u8
-    requires name_columns { NameColumns keys.now codes.now }
-    requires rest_le_end { (cut.rest ≤ end) × (end ≤ length s.now) }
-    ensures { place result ≡ after_prefix (place cut.prefix) (unit_named n (between s.now cut.rest end)) }
+// The known symbol of a cut, if the letters after its prefix name a unit.
+fn known_cut(n: u8, s: &[u8], cut: Option<PrefixCut>) -> Option<SymbolAt>
+    requires { IfSome cut (λ c. (c.prefix < prefix_count) × ((c.rest.start ≤ c.rest.end) × (c.rest.end ≤ length s.now))) }
+    ensures { KnownBy (cut_prefix cut) (cut_unit n s.now cut) result }
 {
-    if cut.prefix == 0 {
-        return 0;
-    }
-    unit_named(keys, codes, n, s, cut.rest, end)
-}
-
-// The unknown symbol with the prefix of the first cut that has one, or without a prefix.
-fn first_prefixed(two: PrefixCut, one: PrefixCut, end: usize) -> SymbolAt
-    requires { (two.rest ≤ end) × (one.rest ≤ end) }
-    ensures { FirstPrefixed two one end result }
-{
-    if 0 < two.prefix {
-        return unknown_symbol(two.prefix, two.rest, end);
-    }
-    unknown_symbol(one.prefix, one.rest, end)
+    let cut = cut?;
+    let unit = unit_named(n, &s[cut.rest.start..cut.rest.end])?;
+    Some(SymbolAt {
+        prefix: Some(cut.prefix),
+        unit: UnitAt::Known(unit),
+    })
 }
 
 // The symbol of a spelling that is not known whole: a prefix and a known rest, the longest prefix, or neither.
-fn by_cut(keys: &[u64], codes: &[u32], prefixes: &[u32], n: u8, s: &[u8], span: Span) -> SymbolAt
-    requires name_columns { NameColumns keys.now codes.now }
-    requires prefixes_value { prefixes.now ≡ prefix_codes }
-    requires start_le_end { (span.start ≤ span.end) × (span.end ≤ length s.now) }
-    ensures result_value { symbol_in s.now result
+fn by_cut(n: u8, s: &[u8], span: Span) -> SymbolAt
+    requires { (span.start ≤ span.end) × (span.end ≤ length s.now) }
+    ensures is { symbol_in s.now result
         ≡ by_cut (between s.now span.start span.end) (known_cuts n (between s.now span.start span.end)) }
-    ensures bounded_symbol { BoundedSymbol span.start span.end result × UpTo span.end result }
+    ensures bounded { BoundedSymbol span.start span.end result × UpTo span.end result.unit }
 {
-    let two = cut(prefixes, s, span, 2);
-    let after_two = unit_after(keys, codes, n, s, two, span.end);
-    if 0 < after_two {
-        return known_symbol(two.prefix, after_two);
+    let two = cut(s, span, 2);
+    if let Some(symbol) = known_cut(n, s, two) {
+        return symbol;
     }
-    let one = cut(prefixes, s, span, 1);
-    let after_one = unit_after(keys, codes, n, s, one, span.end);
-    if 0 < after_one {
-        return known_symbol(one.prefix, after_one);
+    let one = cut(s, span, 1);
+    if let Some(symbol) = known_cut(n, s, one) {
+        return symbol;
     }
-    first_prefixed(two, one, span.end)
+    match two.or(one) {
+        Some(cut) => SymbolAt {
+            prefix: Some(cut.prefix),
+            unit: UnitAt::Unknown(cut.rest),
+        },
+        None => SymbolAt {
+            prefix: None,
+            unit: UnitAt::Unknown(span),
+        },
+    }
 }
 
 // The symbol of a spelling without quotes: known whole, or by its cuts.
-fn unquoted_symbol(
-    keys: &[u64],
-    codes: &[u32],
-    prefixes: &[u32],
-    n: u8,
-    s: &[u8],
-    span: Span,
-) -> SymbolAt
-    requires name_columns { NameColumns keys.now codes.now }
-    requires prefixes_value { prefixes.now ≡ prefix_codes }
-    requires start_le_end { (span.start ≤ span.end) × (span.end ≤ length s.now) }
-    ensures result_value { symbol_in s.now result
+fn unquoted_symbol(n: u8, s: &[u8], span: Span) -> SymbolAt
+    requires { (span.start ≤ span.end) × (span.end ≤ length s.now) }
+    ensures is { symbol_in s.now result
         ≡ by_whole n (between s.now span.start span.end) (unit_named n (between s.now span.start span.end)) }
-    ensures bounded_symbol { BoundedSymbol span.start span.end result × UpTo span.end result }
+    ensures bounded { BoundedSymbol span.start span.end result × UpTo span.end result.unit }
 {
-    let whole = unit_named(keys, codes, n, s, span.start, span.end);
-    if 0 < whole {
-        return known_symbol(0, whole);
+    match unit_named(n, &s[span.start..span.end]) {
+        Some(unit) => SymbolAt {
+            prefix: None,
+            unit: UnitAt::Known(unit),
+        },
+        None => by_cut(n, s, span),
     }
-    by_cut(keys, codes, prefixes, n, s, span)
 }
 
 // The symbol of a spelling with a quote at `quote`: the prefix before the quote, and the letters up to the next quote.
-fn quoted_symbol(prefixes: &[u32], s: &[u8], span: Span, quote: usize) -> SymbolAt
-    requires prefixes_value { prefixes.now ≡ prefix_codes }
-    requires start_le_quote { (span.start ≤ quote) × ((quote < span.end) × (span.end ≤ length s.now)) }
-    ensures result_value { symbol_in s.now result
+fn quoted_symbol(s: &[u8], span: Span, quote: usize) -> SymbolAt
+    requires { (span.start ≤ quote) × ((quote < span.end) × (span.end ≤ length s.now)) }
+    ensures is { symbol_in s.now result
         ≡ unknown (prefix_named (between s.now span.start quote))
         (run unquoted (between s.now (quote + 1) span.end)) }
-    ensures bounded_symbol { BoundedSymbol span.start span.end result × (result.start ≡ quote + 1) }
+    ensures bounded { BoundedSymbol span.start span.end result × StartsAt (quote + 1) result.unit }
 {
-    let prefix = prefix_named(prefixes, s, span.start, quote);
     let first = quote + 1;
-    let last = first_quote(s, first, span.end);
-    unknown_symbol(prefix, first, last)
+    let letters = Span {
+        start: first,
+        end: first_quote(s, first, span.end),
+    };
+    SymbolAt {
+        prefix: prefix_named(&s[span.start..quote]),
+        unit: UnitAt::Unknown(letters),
+    }
 }
 
 // The symbol that a spelling of the label stands for in notation `n`.
-pub fn symbol(
-    keys: &[u64],
-    codes: &[u32],
-    prefixes: &[u32],
-    n: u8,
-    s: &[u8],
-    span: Span,
-) -> SymbolAt
-    requires name_columns { NameColumns keys.now codes.now }
-    requires prefixes_value { prefixes.now ≡ prefix_codes }
-    requires start_le_end { (span.start ≤ span.end) × (span.end ≤ length s.now) }
+pub fn symbol(n: u8, s: &[u8], span: Span) -> SymbolAt
+    requires { (span.start ≤ span.end) × (span.end ≤ length s.now) }
     ensures result_value { symbol_in s.now result ≡ symbol n (between s.now span.start span.end) }
     ensures bounded_symbol { BoundedSymbol span.start span.end result }
-    ensures letters_at { result.known ≡ false → LettersAt s.now span.start span.end result.start result.end }
+    ensures letters_at { LettersOf s.now span.start span.end result.unit }
 {
     let quote = first_quote(s, span.start, span.end);
     if quote < span.end {
-        return quoted_symbol(prefixes, s, span, quote);
+        return quoted_symbol(s, span, quote);
     }
-    unquoted_symbol(keys, codes, prefixes, n, s, span)
+    unquoted_symbol(n, s, span)
 }

@@ -1,13 +1,15 @@
 // The columns of the table of prefixes, derived from the tables of label/specs.
-// A column is made anew at each call: take it once for a label, and lend it.
-ghost use Rattle.std.specs.Prelude.{◌≡◌};
-ghost use Rattle.symbols.specs.Columns.{prefix_codes, prefix_powers};
+ghost use Rattle.std.specs.Prelude.{◌≡◌, ◌<◌, pos, get_or};
+ghost use Rattle.symbols.specs.Columns.{prefix_count, prefix_codes, prefix_powers};
+
+use crate::columns::element;
 
 // How many prefixes there are.
 pub const PREFIXES: usize = 20;
 
-// Each prefix as one number: how many letters it has, and below that its letters, a byte each in the lowest two.
-const PREFIX_CODES: [u32; PREFIXES] = [
+// Each prefix as one number, so that the table has a line for each: how many letters it has, and below that its letters, a byte each in the
+// lowest two.
+static PREFIX_CODES: [u32; PREFIXES] = [
     0x26461, // da
     0x10068, // h
     0x1006b, // k
@@ -31,7 +33,7 @@ const PREFIX_CODES: [u32; PREFIXES] = [
 ];
 
 // The power of ten that each prefix multiplies by.
-const PREFIX_POWERS: [i8; PREFIXES] = [
+static PREFIX_POWERS: [i8; PREFIXES] = [
     1, // da
     2, // h
     3, // k
@@ -54,14 +56,19 @@ const PREFIX_POWERS: [i8; PREFIXES] = [
     -24, // y
 ];
 
-pub fn prefix_codes() -> [u32; PREFIXES]
-    ensures { result ≡ prefix_codes }
+// The code of the prefix at that place.
+#[tactic(auto, unfolding(crate::proofs::Computing::columns_compute))]
+pub fn prefix_code(place: usize) -> u32
+    requires { place < prefix_count }
+    ensures { result ≡ get_or prefix_codes place 0 }
 {
-    PREFIX_CODES
+    PREFIX_CODES[place]
 }
 
-pub fn prefix_powers() -> [i8; PREFIXES]
-    ensures { result ≡ prefix_powers }
+// The power of ten of the prefix at that place, 0 past the last.
+#[tactic(auto, using(crate::proofs::UnitLaws::byte_held), unfolding(crate::proofs::Computing::columns_compute))]
+pub(crate) fn prefix_tens(place: u8) -> i8
+    ensures { result ≡ get_or prefix_powers place (pos 0) }
 {
-    PREFIX_POWERS
+    element(&PREFIX_POWERS, usize::from(place), 0)
 }

@@ -1,15 +1,15 @@
 // The column of the size of each unit, derived from the tables of label/specs.
-// A column is made anew at each call: take it once for a label, and lend it.
-ghost use Rattle.std.specs.Prelude.{◌≡◌};
+ghost use Rattle.std.specs.Prelude.{◌≡◌, pos, get_or};
 ghost use Rattle.symbols.specs.Columns.{unit_primes};
 
+use crate::columns::element;
 use crate::unit_table::UNITS;
 
 // How many primes a size is made of: 2, 3, 5 and 487.
 pub const PRIMES: usize = 4;
 
-// The exponents of 2, 3, 5 and 487 in each unit's size.
-const UNIT_PRIMES: [i8; UNITS * PRIMES] = [
+// The exponents of 2, 3, 5 and 487 in each unit's size. The column is flat, as the list of specs/Columns.antt is that it is computed from.
+static UNIT_PRIMES: [i8; UNITS * PRIMES] = [
     0, 0, 0, 0, // m
     0, 0, 0, 0, // g
     0, 0, 0, 0, // s
@@ -73,8 +73,10 @@ const UNIT_PRIMES: [i8; UNITS * PRIMES] = [
     -2, 0, -2, 0, // %
 ];
 
-pub fn unit_primes() -> [i8; UNITS * PRIMES]
-    ensures { result ≡ unit_primes }
+// The exponent at that place of the column, 0 past the last.
+#[tactic(auto, using(crate::proofs::UnitLaws::byte_held), unfolding(crate::proofs::Computing::columns_compute))]
+pub(crate) fn unit_prime(place: usize) -> i8
+    ensures { result ≡ get_or unit_primes place (pos 0) }
 {
-    UNIT_PRIMES
+    element(&UNIT_PRIMES, place, 0)
 }

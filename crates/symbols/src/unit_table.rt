@@ -1,7 +1,10 @@
 // The columns of names and of units: how a unit is spelled in which notation, where it takes a prefix and whether it is recommended, derived
-// from the tables of label/specs. A column is made anew at each call: take it once for a label, and lend it.
-ghost use Rattle.std.specs.Prelude.{◌≡◌};
-ghost use Rattle.symbols.specs.Columns.{name_keys, name_codes, unit_prefixed, unit_recommended};
+// from the tables of label/specs.
+ghost use Rattle.std.specs.Prelude.{◌≡◌, ◌<◌, true, get_or};
+ghost use Rattle.symbols.specs.Columns.{name_count, NameAt, unit_prefixed, unit_recommended};
+
+use crate::columns::element;
+use crate::keys::{ONE_BYTE, TWO_BYTES};
 
 // How many names there are.
 pub const NAMES: usize = 68;
@@ -9,8 +12,18 @@ pub const NAMES: usize = 68;
 // How many units there are.
 pub const UNITS: usize = 61;
 
-// Each name as one number in base 256, first letter highest.
-const NAME_KEYS: [u64; NAMES] = [
+// A name: its key and how many letters it has, the notations that know it as a set of bits, and the row of its unit.
+#[derive(Clone, Copy, PartialEq, Eq)]
+pub struct Name {
+    pub key: u64,
+    pub size: usize,
+    pub known_in: u8,
+    pub unit: u8,
+}
+
+// Each name as one number in base 256, first letter highest. Keys and codes are two arrays: specs/Columns.antt computes each as a column, and
+// `nth_name` gives the row.
+static NAME_KEYS: [u64; NAMES] = [
     109, // m
     103, // g
     115, // s
@@ -82,7 +95,8 @@ const NAME_KEYS: [u64; NAMES] = [
 ];
 
 // For each name how many letters it has, the notations that know it as a set of bits, and the row of its unit: a byte each.
-const NAME_CODES: [u32; NAMES] = [
+// One number for the three, so that the table has a line for each name; `nth_name` has the parts.
+static NAME_CODES: [u32; NAMES] = [
     0x01_1f_00, // m
     0x01_1f_01, // g
     0x01_1f_02, // s
@@ -154,7 +168,7 @@ const NAME_CODES: [u32; NAMES] = [
 ];
 
 // The notations in which a prefix is lawful on each unit, as a set of bits.
-const UNIT_PREFIXED: [u8; UNITS] = [
+static UNIT_PREFIXED: [u8; UNITS] = [
     31, // m
     31, // g
     31, // s
@@ -219,7 +233,7 @@ const UNIT_PREFIXED: [u8; UNITS] = [
 ];
 
 // Whether each unit is recommended.
-const UNIT_RECOMMENDED: [bool; UNITS] = [
+static UNIT_RECOMMENDED: [bool; UNITS] = [
     true, // m
     true, // g
     true, // s
@@ -283,26 +297,33 @@ const UNIT_RECOMMENDED: [bool; UNITS] = [
     true, // %
 ];
 
-pub fn name_keys() -> [u64; NAMES]
-    ensures { result ≡ name_keys }
+// The name at that place.
+#[tactic(auto, unfolding(crate::proofs::Computing::columns_compute))]
+pub fn nth_name(place: usize) -> Name
+    requires { place < name_count }
+    ensures { NameAt place result }
 {
-    NAME_KEYS
+    let code = NAME_CODES[place];
+    Name {
+        key: NAME_KEYS[place],
+        size: (code / TWO_BYTES) as usize,
+        known_in: (code / ONE_BYTE % ONE_BYTE) as u8,
+        unit: (code % ONE_BYTE) as u8,
+    }
 }
 
-pub fn name_codes() -> [u32; NAMES]
-    ensures { result ≡ name_codes }
+// The set of notations in which a prefix is lawful on the unit of that row, 0 past the last.
+#[tactic(auto, unfolding(crate::proofs::Computing::columns_compute))]
+pub(crate) fn unit_prefixed(row: u8) -> u8
+    ensures { result ≡ get_or unit_prefixed row 0 }
 {
-    NAME_CODES
+    element(&UNIT_PREFIXED, usize::from(row), 0)
 }
 
-pub fn unit_prefixed() -> [u8; UNITS]
-    ensures { result ≡ unit_prefixed }
+// Whether the unit of that row is recommended. Past the last row it is.
+#[tactic(auto, unfolding(crate::proofs::Computing::columns_compute))]
+pub(crate) fn unit_recommended(row: u8) -> bool
+    ensures { result ≡ get_or unit_recommended row true }
 {
-    UNIT_PREFIXED
-}
-
-pub fn unit_recommended() -> [bool; UNITS]
-    ensures { result ≡ unit_recommended }
-{
-    UNIT_RECOMMENDED
+    element(&UNIT_RECOMMENDED, usize::from(row), true)
 }

@@ -7,25 +7,24 @@ use mathlib.Core.Bool.{Bool, true, false, ◌&&◌}
 use mathlib.Core.List.{List, [], ◌∷◌}
 use lib.Dec.{eqb, leb, leb-zero, leb-suc-zero, leb-suc-suc}
 use lib.ListN.{length, take, drop, get_or, length-drop}
-use lib.Seq.{length-take-le}
+use lib.Pointwise.{pointwise}
 use borrow.Author.Tests.{eq-eqb, ne_eqb, le-leb, lt-leb}
 use Rattle.label.specs.declared.Rules.{Rules}
-use Rattle.label.specs.declared.WrittenFactor.TheVariants.{Absent, TenTo, Zeros}
-use Rattle.label.specs.Bytes.{caret, close_bracket, digit_zero, digit_one, open_bracket, star, digit, run_on, run, all}
+use Rattle.std.proofs.Common.{Option, Some}
+use Rattle.label.specs.declared.SignedDigits.{SignedDigits}
+use Rattle.label.specs.declared.WrittenFactor.{WrittenFactor}
+use Rattle.label.specs.declared.WrittenFactor.TheVariants.{TenTo, Zeros}
+use Rattle.label.specs.Bytes.{caret, digit_zero, digit_one, open_bracket, star, digit, run_on, run, all}
 use Rattle.label.specs.Choice.{pick}
 use Rattle.label.specs.Lexical.{Numeral, Factor, ten_to}
 use Rattle.label.specs.Parse.{Found, none, mapped, closed, unsigned, sign, after_sign, integer, plain_digits, plain_factor, wrapped, starred_factor, ten_factor, ten, factor}
-use Rattle.label.specs.Ranges.{between, numeral_in, Inside}
+use Rattle.label.specs.Ranges.{between, numeral_in, factor_in, FactorInside}
 use Rattle.scan.specs.Runs.{Run, is_zero}
-use Rattle.tokens.specs.declared.number.IntegerAt.{IntegerAt}
-use Rattle.tokens.specs.declared.factor.FactorAt.{FactorAt}
-use Rattle.tokens.specs.Answers.{integer_found, ReadsInteger, begins, ReadsFactor, AsTens}
-use Rattle.label.proofs.Basics.{and_left}
+use Rattle.tokens.specs.declared.At.{At}
+use Rattle.tokens.specs.Answers.{As, ClosedAt, FoundInteger, ReadsFactor, ReadsInteger}
 use Rattle.label.proofs.Between.{length_between, between_cons}
-use Rattle.tokens.proofs.Readers.{by_byte, closed_room, closed_found, closed_none, on_from, read_to, integer_read}
-
-abbrev pub no_factor_at : ℕ → FactorAt
-no_factor_at at = record { ok = false; next = at; factor = Absent }
+use Rattle.tokens.proofs.Numbers.{run_length}
+use Rattle.tokens.proofs.Readers.{by_byte, none_closed, on_from, closed_read, integer_read}
 
 -- ONE AND ZEROS
 
@@ -47,9 +46,6 @@ leb_less a e z h g = go (dec_le e z)
     go : Dec (e ≤ z) → leb (e - a) (z - a) ≡ leb e z
     go (yes l) = le-leb (e - a) (z - a) (omega arith) ∙ sym (le-leb e z l)
     go (no l) = lt-leb (e - a) (z - a) (omega arith) ∙ sym (lt-leb e z (omega arith))
-
-run_length : (p : ℕ → Bool) (s : List ℕ) (a z : ℕ) → Run p s a z → length (run p (drop a s)) ≡ z - a
-run_length p s a z w = ap length (sym w.bytes) ∙ length-take-le (z - a) (drop a s) (omega (arith, length-drop a s, w.from, w.within))
 
 all_between : (p : ℕ → Bool) (s : List ℕ) (a e z : ℕ) → a ≤ e → e ≤ length s → Run p s a z → all p (between s a e) ≡ leb e z
 all_between p s a e z h g w =
@@ -79,33 +75,25 @@ module _ (s : List ℕ) (a e : ℕ) where
       go (no h) = absurd (let z : ◌≡◌ {A = ℕ} 0 1 = cc (plain_empty (omega arith)) in omega arith)
 
 -- the number of zeros can be counted
-pub zeros_room : (s : List ℕ) (a e : ℕ) {x y : Bool} (b : Bool) → x ≡ (y && b) → y ≡ plain_digits (between s a e) → x ≡ true → (a ≤ e) × (1 ≤ e - a)
-zeros_room s a e {x} {y} b p q t = let h = plain_nonempty s a e (sym q ∙ and_left y b (sym p ∙ t)) in (omega arith, omega arith)
+pub zeros_room : (s : List ℕ) (a e : ℕ) {y : Bool} → y ≡ plain_digits (between s a e) → y ≡ true → 1 ≤ e - a
+zeros_room s a e q t = let h = plain_nonempty s a e (sym q ∙ t) in omega arith
 
-nothing_read : {x : Found Factor} {s : List ℕ} {at : ℕ} → at ≤ length s → x ≡ none → ReadsFactor x s at (no_factor_at at)
-nothing_read h e = read_to (omega arith) h tt e
-
-module _ (r : Rules) (s : List ℕ) (start end : ℕ) {x y : Bool} (p : x ≡ (y && r.plain)) (q : y ≡ plain_digits (between s start end)) (g : end ≤ length s) where
-  pub plain₁ : x ≡ true → ReadsFactor (plain_factor r (between s start end) (drop end s)) s end (record { ok = true; next = end; factor = Zeros (end - start - 1) })
+module _ (r : Rules) (s : List ℕ) (start end : ℕ) where
+  pub plain_read : end ≤ length s → plain_digits (between s start end) ≡ true → r.plain ≡ true
+      → ReadsFactor (plain_factor r (between s start end) (drop end s)) s end (Some (record { value = Zeros (end - start - 1); next = end }))
   unfolding plain_factor
-  plain₁ t = read_to (omega arith) g tt (rw (ap (λ (b : Bool). b && r.plain) (sym q) ∙ sym p ∙ t, length_between s start end g))
+  plain_read g p q = record { is = rw (p, q, length_between s start end g); ahead = omega arith; within = g; inside = tt }
 
-  pub plain₂ : x ≡ false → ReadsFactor (plain_factor r (between s start end) (drop end s)) s end (no_factor_at end)
+  pub plain_none : (plain_digits (between s start end) && r.plain) ≡ false → plain_factor r (between s start end) (drop end s) ≡ none
   unfolding plain_factor
-  plain₂ t = nothing_read g (rw (ap (λ (b : Bool). b && r.plain) (sym q) ∙ sym p ∙ t))
+  plain_none p = rw p
 
 -- TEN TO AN INTEGER
 
-module _ {s : List ℕ} (i : IntegerAt) {r t : Bool} (b : r ≡ begins close_bracket (drop i.integer.digits.end s)) (q : t ≡ (i.ok && r)) where
-  pub closed_tens₁ : t ≡ true → Inside s i.integer.digits
-      → ReadsFactor (closed ten_to (integer_found s i)) s i.integer.digits.end (record { ok = true; next = i.integer.digits.end + 1; factor = TenTo i.integer })
-  closed_tens₁ e j =
-      read_to (omega arith) (omega (arith, closed_room s i.integer.digits.end ten_to (numeral_in s i.integer) i.ok b q e)) j
-      (closed_found s i.integer.digits.end ten_to (numeral_in s i.integer) i.ok b q e)
-
-  pub closed_tens₂ : t ≡ false → Inside s i.integer.digits
-      → ReadsFactor (closed ten_to (integer_found s i)) s i.integer.digits.end (no_factor_at i.integer.digits.end)
-  closed_tens₂ e j = nothing_read j.within (closed_none s i.integer.digits.end ten_to (numeral_in s i.integer) i.ok b q e)
+-- an integer as a power of ten
+tens_read : {x : Found Factor} (s : List ℕ) (at : ℕ) (i : Option SignedDigits) {o : Option (At WrittenFactor)} → x ≡ mapped ten_to (integer (drop at s)) → ReadsInteger (integer (drop at s)) s at i
+    → As TenTo i o → ReadsFactor x s at o
+tens_read s at i e w q = integer_read factor_in FactorInside s at TenTo ten_to (λ n. refl) (λ n j. j) _ i e w q
 
 module _ (r : Rules) (s : List ℕ) (at : ℕ) where
   wrapped_is : wrapped r (drop at s)
@@ -114,24 +102,30 @@ module _ (r : Rules) (s : List ℕ) (at : ℕ) where
   wrapped_is =
       by_byte (wrapped r) (λ c w u. pick (eqb c open_bracket && r.wrapped) (closed ten_to (integer u)) (mapped ten_to (integer w))) (λ c u. refl) refl s at
 
-  pub wrapped₁ : {i : IntegerAt} {o : FactorAt} → (eqb (get_or s at 0) open_bracket && r.wrapped) ≡ true → ReadsInteger (integer (drop (at + 1) s)) s (at + 1) i
-      → ReadsFactor (closed ten_to (integer_found s i)) s i.integer.digits.end o → ReadsFactor (wrapped r (drop at s)) s at o
-  wrapped₁ e w v =
-      on_from (wrapped_is ∙ rw e (ap (λ (x : Found Numeral). closed ten_to x) w.is)) (omega (arith, w.ahead, w.inside.forward)) v
+  module _ (e : (eqb (get_or s at 0) open_bracket && r.wrapped) ≡ true) where
+    pub wrapped_no_integer : integer (drop (at + 1) s) ≡ none → wrapped r (drop at s) ≡ none
+    wrapped_no_integer w = wrapped_is ∙ rw e (ap (λ (x : Found Numeral). closed ten_to x) w ∙ none_closed ten_to)
 
-  pub wrapped₂ : {i : IntegerAt} {o : FactorAt} → (eqb (get_or s at 0) open_bracket && r.wrapped) ≡ false → ReadsInteger (integer (drop at s)) s at i → AsTens i o
-      → ReadsFactor (wrapped r (drop at s)) s at o
-  wrapped₂ e w v = integer_read TenTo ten_to refl (λ j. j) (wrapped_is ∙ rw e) w v
+    pub wrapped_bracket : {n : SignedDigits} (o : Option (At WrittenFactor)) → FoundInteger (integer (drop (at + 1) s)) s (at + 1) n
+        → ClosedAt s n.digits.end (TenTo n) o → ReadsFactor (wrapped r (drop at s)) s at o
+    wrapped_bracket {n} o w v =
+        on_from factor_in FactorInside s at n.digits.end o
+        (wrapped_is ∙ rw e (ap (λ (x : Found Numeral). closed ten_to x) w.is))
+        (omega (arith, w.ahead, w.inside.forward)) (closed_read factor_in FactorInside s n.digits.end ten_to (numeral_in s n) (TenTo n) o refl w.inside v)
+
+  pub wrapped_bare : (i : Option SignedDigits) {o : Option (At WrittenFactor)} → (eqb (get_or s at 0) open_bracket && r.wrapped) ≡ false → ReadsInteger (integer (drop at s)) s at i
+      → As TenTo i o → ReadsFactor (wrapped r (drop at s)) s at o
+  wrapped_bare i e w q = tens_read s at i (wrapped_is ∙ rw e) w q
 
   starred_is : starred_factor r (drop at s) ≡ pick (eqb (get_or s at 0) star) (wrapped r (drop (at + 1) s)) none
   unfolding starred_factor
   starred_is = by_byte (starred_factor r) (λ c w u. pick (eqb c star) (wrapped r u) none) (λ c u. refl) refl s at
 
-  pub starred_factor₁ : {o : FactorAt} → get_or s at 0 ≡ star → ReadsFactor (wrapped r (drop (at + 1) s)) s (at + 1) o → ReadsFactor (starred_factor r (drop at s)) s at o
-  starred_factor₁ e v = on_from (starred_is ∙ rw (eq-eqb _ _ e)) (omega arith) v
+  pub starred_factor_star : (o : Option (At WrittenFactor)) → get_or s at 0 ≡ star → ReadsFactor (wrapped r (drop (at + 1) s)) s (at + 1) o → ReadsFactor (starred_factor r (drop at s)) s at o
+  starred_factor_star o e v = on_from factor_in FactorInside s at (at + 1) o (starred_is ∙ rw (eq-eqb _ _ e)) (omega arith) v
 
-  pub starred_factor₂ : at ≤ length s → (get_or s at 0 ≡ star → ⊥) → ReadsFactor (starred_factor r (drop at s)) s at (no_factor_at at)
-  starred_factor₂ h e = nothing_read h (starred_is ∙ rw (ne_eqb _ _ e))
+  pub starred_factor_none : (get_or s at 0 ≡ star → ⊥) → starred_factor r (drop at s) ≡ none
+  starred_factor_none e = starred_is ∙ rw (ne_eqb _ _ e)
 
 module _ (r : Rules) (s ds : List ℕ) (at : ℕ) where
   ten_is : ten_factor r ds (drop at s)
@@ -146,44 +140,52 @@ module _ (r : Rules) (s ds : List ℕ) (at : ℕ) where
       (pick (eqb c caret && r.caret) (wrapped r u) (pick (eqb c star) (starred_factor r u) (plain_factor r ds w))))
       (λ c u. refl) refl s at
 
-  pub ten₁ : {i : IntegerAt} {o : FactorAt} → (sign (get_or s at 0) && r.signed) ≡ true → ReadsInteger (integer (drop at s)) s at i → AsTens i o
-      → ReadsFactor (ten_factor r ds (drop at s)) s at o
-  ten₁ e w v = integer_read TenTo ten_to refl (λ j. j) (ten_is ∙ rw e) w v
+  pub ten₁ : (i : Option SignedDigits) {o : Option (At WrittenFactor)} → (sign (get_or s at 0) && r.signed) ≡ true → ReadsInteger (integer (drop at s)) s at i
+      → As TenTo i o → ReadsFactor (ten_factor r ds (drop at s)) s at o
+  ten₁ i e w q = tens_read s at i (ten_is ∙ rw e) w q
 
   module _ (a : (sign (get_or s at 0) && r.signed) ≡ false) where
-    pub ten₂ : {o : FactorAt} → (eqb (get_or s at 0) caret && r.caret) ≡ true → ReadsFactor (wrapped r (drop (at + 1) s)) s (at + 1) o
+    pub ten₂ : (o : Option (At WrittenFactor)) → (eqb (get_or s at 0) caret && r.caret) ≡ true → ReadsFactor (wrapped r (drop (at + 1) s)) s (at + 1) o
         → ReadsFactor (ten_factor r ds (drop at s)) s at o
-    ten₂ e v = on_from (ten_is ∙ rw (a, e)) (omega arith) v
+    ten₂ o e v = on_from factor_in FactorInside s at (at + 1) o (ten_is ∙ rw (a, e)) (omega arith) v
 
     module _ (b : (eqb (get_or s at 0) caret && r.caret) ≡ false) where
-      pub ten₃ : {o : FactorAt} → get_or s at 0 ≡ star → ReadsFactor (starred_factor r (drop (at + 1) s)) s (at + 1) o
+      pub ten₃ : (o : Option (At WrittenFactor)) → get_or s at 0 ≡ star → ReadsFactor (starred_factor r (drop (at + 1) s)) s (at + 1) o
           → ReadsFactor (ten_factor r ds (drop at s)) s at o
-      ten₃ e v = on_from (ten_is ∙ rw (a, b, eq-eqb _ _ e)) (omega arith) v
+      ten₃ o e v = on_from factor_in FactorInside s at (at + 1) o (ten_is ∙ rw (a, b, eq-eqb _ _ e)) (omega arith) v
 
-      pub ten₄ : {o : FactorAt} → (get_or s at 0 ≡ star → ⊥) → ReadsFactor (plain_factor r ds (drop at s)) s at o → ReadsFactor (ten_factor r ds (drop at s)) s at o
-      ten₄ e v = on_from (ten_is ∙ rw (a, b, ne_eqb _ _ e)) (omega arith) v
+      pub ten₄ : (o : Option (At WrittenFactor)) → (get_or s at 0 ≡ star → ⊥) → ReadsFactor (plain_factor r ds (drop at s)) s at o → ReadsFactor (ten_factor r ds (drop at s)) s at o
+      ten₄ o e v = on_from factor_in FactorInside s at at o (ten_is ∙ rw (a, b, ne_eqb _ _ e)) (omega arith) v
 
 -- THE WHOLE FACTOR
 
-ten_short : (l : List ℕ) → (length l ≡ 2 → ⊥) → ten l ≡ false
+-- comparing with the digits 10 tells what `ten` tells
+pub is_ten : (l : List ℕ) → pointwise eqb l (digit_one ∷ digit_zero ∷ []) ≡ ten l
 unfolding ten
-ten_short [] h = refl
-ten_short (c ∷ []) h = refl
-ten_short (c ∷ d ∷ []) h = absurd (h refl)
-ten_short (c ∷ d ∷ e ∷ l) h = refl
+is_ten [] = refl
+is_ten (c ∷ []) = go (eqb c digit_one)
+  where
+    go : (a : Bool) → (a && false) ≡ false
+    go true = refl
+    go false = refl
+is_ten (c ∷ d ∷ []) = go (eqb c digit_one) (eqb d digit_zero)
+  where
+    go : (a b : Bool) → (a && (b && true)) ≡ (a && b)
+    go true true = refl
+    go true false = refl
+    go false b = refl
+is_ten (c ∷ d ∷ e ∷ l) = go (eqb c digit_one) (eqb d digit_zero)
+  where
+    go : (a b : Bool) → (a && (b && false)) ≡ false
+    go true true = refl
+    go true false = refl
+    go false b = refl
 
-pub is_ten₁ : (s : List ℕ) (a e : ℕ) → e ≤ length s → (e - a ≡ 2 → ⊥) → false ≡ ten (between s a e)
-is_ten₁ s a e h n = sym (ten_short (between s a e) (λ q. n (sym (length_between s a e h) ∙ q)))
-
-pub is_ten₂ : (s : List ℕ) (a e : ℕ) → a ≤ e → e ≤ length s → e - a ≡ 2 → (eqb (get_or s a 0) digit_one && eqb (get_or s (a + 1) 0) digit_zero) ≡ ten (between s a e)
-unfolding ten
-is_ten₂ s a e l h q = rw (between_cons s a e (omega arith) h, between_cons s (a + 1) e (omega arith) h, between_nothing s (a + 1 + 1) e (omega arith))
-
-module _ (r : Rules) {s : List ℕ} {at end : ℕ} (w : Run digit s at end) {x : Bool} (q : x ≡ ten (between s at end)) {o : FactorAt} where
+module _ (r : Rules) {s : List ℕ} {at end : ℕ} (w : Run digit s at end) {x : Bool} (q : x ≡ ten (between s at end)) (o : Option (At WrittenFactor)) where
   pub factor₁ : x ≡ true → ReadsFactor (ten_factor r (between s at end) (drop end s)) s end o → ReadsFactor (factor r (drop at s)) s at o
   unfolding factor
-  factor₁ t v = on_from (rw (← w.bytes, ← w.rest, sym q ∙ t)) w.from v
+  factor₁ t v = on_from factor_in FactorInside s at end o (rw (← w.bytes, ← w.rest, sym q ∙ t)) w.from v
 
   pub factor₂ : x ≡ false → ReadsFactor (plain_factor r (between s at end) (drop end s)) s end o → ReadsFactor (factor r (drop at s)) s at o
   unfolding factor
-  factor₂ t v = on_from (rw (← w.bytes, ← w.rest, sym q ∙ t)) w.from v
+  factor₂ t v = on_from factor_in FactorInside s at end o (rw (← w.bytes, ← w.rest, sym q ∙ t)) w.from v

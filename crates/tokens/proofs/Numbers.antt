@@ -1,76 +1,75 @@
 -- Digits and integers at a place of the text: one law for each way through the code.
-use Prim.Native.Nat.{ℕ, ◌≤◌, ◌<◌, ◌+◌}
+use Prim.Native.Nat.{ℕ, ◌≤◌, ◌<◌, ◌+◌, ◌-◌}
 use native.Mathlib.Omega.{arith}
-use mathlib.Core.Path.{◌≡◌, refl, ap, ◌∙◌}
-use mathlib.Core.Bool.{Bool, true, false, ◌||◌, not}
-use mathlib.Core.List.{List, ◌∷◌}
+use mathlib.Core.Path.{◌≡◌, refl, sym, ap, ◌∙◌}
+use mathlib.Core.Bool.{Bool, true, false, ◌||◌}
+use mathlib.Core.List.{List, [], ◌∷◌}
 use lib.Dec.{eqb}
-use lib.ListN.{length, drop, get_or}
-use borrow.Author.Tests.{not-true, not-false}
-use Rattle.label.specs.Bytes.{plus, minus, digit, nonzero, run, past}
+use lib.ListN.{length, drop, get_or, length-drop}
+use lib.Seq.{length-take-le}
+use Rattle.std.proofs.Common.{Option, Some, None}
+use Rattle.std.specs.Option.{option_map}
+use Rattle.label.specs.declared.DigitRange.{DigitRange}
+use Rattle.label.specs.Bytes.{plus, minus, digit, nonzero, run_on, run, past_on, past}
 use Rattle.label.specs.Choice.{pick}
 use Rattle.label.specs.Parse.{Found, none, found, mapped, unsigned, digits, numeral, sign, after_sign, integer}
-use Rattle.label.specs.Ranges.{digits_in, Inside}
 use Rattle.scan.specs.Runs.{Run}
-use Rattle.label.proofs.Basics.{false_true}
-use Rattle.label.proofs.Between.{byte_inside, between_cons}
-use Rattle.tokens.specs.declared.number.DigitsAt.{DigitsAt}
-use Rattle.tokens.specs.declared.number.IntegerAt.{IntegerAt}
-use Rattle.tokens.specs.Answers.{led, sign_end, ReadsDigits, Signs, ReadsInteger, digits_found, integer_found}
-use Rattle.tokens.proofs.Readers.{by_byte, mapped_by}
-
-abbrev pub no_digits : ℕ → DigitsAt
-no_digits at = record { ok = false; digits = record { start = at; end = at } }
+use Rattle.label.proofs.Basics.{true→T, nonzero_digit}
+use Rattle.tokens.specs.Answers.{sign_end, FoundDigits, ReadsDigits, ReadsInteger}
+use Rattle.scan.proofs.Places.{by_byte}
 
 -- RUNS OF DIGITS
 
-module _ {s : List ℕ} {at : ℕ} where
-  pub led₁ : (b : Bool) → at ≤ length s → not b ≡ true → ReadsDigits (led b s at) s at (no_digits at)
-  led₁ b h e = record { is = rw (not-true b e); ahead = omega arith; inside = record { forward = omega arith; within = h } }
+pub run_length : (p : ℕ → Bool) (s : List ℕ) (a z : ℕ) → Run p s a z → length (run p (drop a s)) ≡ z - a
+run_length p s a z w = ap length (sym w.bytes) ∙ length-take-le (z - a) (drop a s) (omega (arith, length-drop a s, w.from, w.within))
 
-  pub led₂ : (b : Bool) {e : ℕ} → at < length s → not b ≡ false → Run digit s (at + 1) e → ReadsDigits (led b s at) s at (record { ok = true; digits = record { start = at; end = e } })
-  led₂ b {e} h q w = record {
-    is = rw (not-false b q, ← w.bytes, ← w.rest, ← between_cons s at e (omega (arith, w.from)) w.within);
+digits_of_run : (l : List ℕ) → 0 < length (run digit l) → digits l ≡ found (run digit l) (past digit l)
+unfolding digits run past
+digits_of_run [] h = absurd (omega arith)
+digits_of_run (c ∷ l) h = go (digit c) h
+  where
+    go : (b : Bool) → 0 < length (run_on b c (run digit l))
+        → pick b (found (c ∷ run digit l) (past digit l)) none ≡ found (run_on b c (run digit l)) (past_on b (past digit l) (c ∷ l))
+    go true h = refl
+    go false h = absurd (omega arith)
+
+no_digits_of_run : (l : List ℕ) → length (run digit l) ≡ 0 → digits l ≡ none
+unfolding digits run
+no_digits_of_run [] h = refl
+no_digits_of_run (c ∷ l) h = go (digit c) h
+  where
+    go : (b : Bool) → length (run_on b c (run digit l)) ≡ 0 → pick b (found (c ∷ run digit l) (past digit l)) none ≡ none
+    go true h = absurd (omega arith)
+    go false h = refl
+
+module _ (s : List ℕ) (at : ℕ) where
+  pub digits_read : {e : ℕ} → Run digit s at e → at < e → FoundDigits (digits (drop at s)) s at (record { start = at; end = e })
+  digits_read {e} w h = record {
+    is = digits_of_run (drop at s) (omega (arith, run_length digit s at e w)) ∙ rw (← w.bytes, ← w.rest);
     ahead = omega arith;
-    inside = record { forward = omega (arith, w.from); within = w.within };
+    inside = record { forward = w.from; within = w.within };
   }
 
--- digits whose first is of a class that 0 is not of
-module _ (s : List ℕ) (at : ℕ) where
-  unsigned_is : unsigned (drop at s) ≡ led (nonzero (get_or s at 0)) s at
-  unfolding unsigned nonzero
-  unsigned_is = by_byte unsigned (λ c w u. pick (nonzero c) (found (c ∷ run digit u) (past digit u)) none) (λ c u. refl) refl s at
+  pub digits_none : {e : ℕ} → Run digit s at e → (at < e → ⊥) → digits (drop at s) ≡ none
+  digits_none {e} w h = no_digits_of_run (drop at s) (omega (arith, h, run_length digit s at e w))
 
-  digits_is : digits (drop at s) ≡ led (digit (get_or s at 0)) s at
-  unfolding digits digit
-  digits_is = by_byte digits (λ c w u. pick (digit c) (found (c ∷ run digit u) (past digit u)) none) (λ c u. refl) refl s at
+  unsigned_is : unsigned (drop at s) ≡ pick (nonzero (get_or s at 0)) (digits (drop at s)) none
+  unfolding unsigned digits nonzero
+  unsigned_is = by_byte unsigned (λ c w u. pick (nonzero c) (digits w) none) (λ c u. go c u (nonzero c) refl) refl s at
+    where
+      go : (c : ℕ) (u : List ℕ) (b : Bool) → b ≡ nonzero c
+          → pick b (found (c ∷ run digit u) (past digit u)) none ≡ pick b (pick (digit c) (found (c ∷ run digit u) (past digit u)) none) none
+      go c u true e = rw (nonzero_digit c (true→T (sym e)))
+      go c u false e = refl
 
-  pub unsigned_read : {b : Bool} {o : DigitsAt} → b ≡ nonzero (get_or s at 0) → ReadsDigits (led b s at) s at o → ReadsDigits (unsigned (drop at s)) s at o
-  unsigned_read e w = record { is = unsigned_is ∙ rw (← e) w.is; ahead = w.ahead; inside = w.inside }
+  -- digits whose first is 1 to 9
+  pub unsigned_read : {b : Bool} (o : Option DigitRange) → b ≡ nonzero (get_or s at 0) → b ≡ true → ReadsDigits (digits (drop at s)) s at o → ReadsDigits (unsigned (drop at s)) s at o
+  unsigned_read o e t w = rw (unsigned_is, ← e, t) w
 
-  pub digits_read : {b : Bool} {o : DigitsAt} → b ≡ digit (get_or s at 0) → ReadsDigits (led b s at) s at o → ReadsDigits (digits (drop at s)) s at o
-  digits_read e w = record { is = digits_is ∙ rw (← e) w.is; ahead = w.ahead; inside = w.inside }
-
-  -- a byte of the class is inside the text
-  pub nonzero_inside : {b : Bool} → b ≡ nonzero (get_or s at 0) → b ≡ true → at < length s
-  unfolding nonzero
-  nonzero_inside e t = byte_inside s at (λ z. let y : ◌≡◌ {A = ℕ} 0 1 = cc (e, t, z) in omega arith)
-
-  pub digit_inside : {b : Bool} → b ≡ digit (get_or s at 0) → b ≡ true → at < length s
-  unfolding digit
-  digit_inside e t = byte_inside s at (λ z. let y : ◌≡◌ {A = ℕ} 0 1 = cc (e, t, z) in omega arith)
+  pub unsigned_none : {b : Bool} → b ≡ nonzero (get_or s at 0) → b ≡ false → unsigned (drop at s) ≡ none
+  unsigned_none e t = rw (unsigned_is, ← e, t)
 
 -- INTEGERS
-
--- digits under a sign, as the numeral
-signs_numeral : (s : List ℕ) (b : Bool) (d : DigitsAt) (o : IntegerAt) → Signs b d o → mapped (numeral b) (digits_found s d) ≡ integer_found s o
-signs_numeral s b d o w = rw (w.ok, w.is) (mapped_by (numeral b) d.ok (digits_in s d.digits) (drop d.digits.end s))
-
-signs_inside : {s : List ℕ} {b : Bool} {d : DigitsAt} {o : IntegerAt} → Signs b d o → Inside s d.digits → Inside s o.integer.digits
-signs_inside w i = rw w.is i
-
-signs_start : {b : Bool} {d : DigitsAt} {o : IntegerAt} → Signs b d o → o.integer.digits.start ≡ d.digits.start
-signs_start w = rw w.is
 
 module _ (s : List ℕ) (at : ℕ) where
   pub sign_end_ahead : at ≤ sign_end s at
@@ -79,12 +78,6 @@ module _ (s : List ℕ) (at : ℕ) where
       go : (b : Bool) → at ≤ pick b (at + 1) at
       go true = omega arith
       go false = omega arith
-
-  pub sign_end₁ : sign (get_or s at 0) ≡ true → (at + 1 ≡ sign_end s at) × (at + 1 ≤ length s)
-  sign_end₁ e = (rw e, omega (arith, byte_inside s at (λ z. false_true (rw z at e))))
-
-  pub sign_end₂ : sign (get_or s at 0) ≡ false → at ≤ length s → (at ≡ sign_end s at) × (at ≤ length s)
-  sign_end₂ e h = (rw e, h)
 
   pub after_sign_is : {A : Type 0} (f : Bool → List ℕ → Found A) → after_sign f (drop at s) ≡ f (eqb (get_or s at 0) minus) (drop (sign_end s at) s)
   unfolding after_sign
@@ -98,11 +91,16 @@ module _ (s : List ℕ) (at : ℕ) where
       go false true = refl
       go false false = refl
 
-  pub integer_after : {b : Bool} {from : ℕ} {d : DigitsAt} {o : IntegerAt} → b ≡ eqb (get_or s at 0) minus → from ≡ sign_end s at
-      → ReadsDigits (unsigned (drop from s)) s from d → Signs b d o → ReadsInteger (integer (drop at s)) s at o
+  integer_is : {b : Bool} {from : ℕ} → b ≡ eqb (get_or s at 0) minus → from ≡ sign_end s at → integer (drop at s) ≡ mapped (numeral b) (unsigned (drop from s))
   unfolding integer
-  integer_after {b} {from} {d} {o} e f w v = record {
-    is = rw (← f, ← e) at (after_sign_is (λ x t. mapped (numeral x) (unsigned t))) ∙ ap (λ (x : Found (List ℕ)). mapped (numeral b) x) w.is ∙ signs_numeral s b d o v;
-    ahead = omega (arith, f, sign_end_ahead, w.ahead, signs_start v);
-    inside = signs_inside v w.inside;
+  integer_is e f = rw (← f, ← e) at (after_sign_is (λ x t. mapped (numeral x) (unsigned t)))
+
+  pub integer_after : {b : Bool} {from : ℕ} (d : Option DigitRange) → b ≡ eqb (get_or s at 0) minus → from ≡ sign_end s at
+      → ReadsDigits (unsigned (drop from s)) s from d → ReadsInteger (integer (drop at s)) s at (option_map (λ (r : DigitRange). record { negative = b; digits = r }) d)
+  unfolding integer mapped
+  integer_after {b} {from} (Some d) e f w = record {
+    is = integer_is e f ∙ ap (λ (x : Found (List ℕ)). mapped (numeral b) x) w.is;
+    ahead = omega (arith, f, sign_end_ahead, w.ahead);
+    inside = w.inside;
   }
+  integer_after {b} {from} None e f w = integer_is e f ∙ ap (λ (x : Found (List ℕ)). mapped (numeral b) x) w

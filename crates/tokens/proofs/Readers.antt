@@ -1,10 +1,11 @@
--- Ways to combine readers, over what is read: by the byte at a place, one after another, mapped, closed by a bracket, and as an answer.
+-- Ways to combine readers, over what is read: by the byte at a place, closed by a bracket, and as an answer.
 use Prim.Native.Nat.{ℕ, ◌≤◌, ◌<◌, ◌+◌}
 use native.Mathlib.Omega.{arith}
-use native.Mathlib.Decide.{dec_lt}
+use Rattle.std.proofs.Common.{Option, Some, None}
+use Rattle.std.specs.Bool.{then_some}
 use mathlib.Core.Path.{◌≡◌, refl, sym, ap, ◌∙◌}
 use mathlib.Core.Bool.{Bool, true, false, ◌&&◌}
-use mathlib.Core.List.{List, [], ◌∷◌}
+use mathlib.Core.List.{List}
 use lib.Dec.{eqb}
 use lib.ListN.{length, drop, get_or}
 use borrow.Author.Tests.{eqb-true}
@@ -14,31 +15,17 @@ use Rattle.label.specs.declared.SignedDigits.{SignedDigits}
 use Rattle.label.specs.Lexical.{Numeral}
 use Rattle.label.specs.Ranges.{numeral_in, Inside}
 use Rattle.label.specs.Parse.{Found, none, found, then, mapped, byte, closed}
-use Rattle.label.proofs.Basics.{and_left, and_right}
-use Rattle.label.proofs.Between.{here, beyond, byte_inside, byte_outside}
-use Rattle.scan.specs.Founds.{found_by}
-use Rattle.tokens.specs.declared.number.IntegerAt.{IntegerAt}
-use Rattle.tokens.specs.Answers.{AnswerFields, ReadsBy, Wraps, ReadsInteger, begins}
+use Rattle.label.proofs.Basics.{and_left}
+pub use Rattle.scan.proofs.Places.{by_byte, byte_found}
+use Rattle.tokens.specs.declared.At.{At}
+use Rattle.tokens.specs.Answers.{As, ReadsBy, ReadsInteger, begins, ClosedAt}
 
 -- BY THE BYTE AT A PLACE
-
--- What looks at the first byte c of a text w, with u after it, looks at the byte at a place. At the end that byte is 0.
-pub by_byte : {A : Type 0} (f : List ℕ → A) (g : ℕ → List ℕ → List ℕ → A) → ((c : ℕ) (u : List ℕ) → f (c ∷ u) ≡ g c (c ∷ u) u) → f [] ≡ g 0 [] []
-    → (s : List ℕ) (at : ℕ) → f (drop at s) ≡ g (get_or s at 0) (drop at s) (drop (at + 1) s)
-by_byte f g p q s at = go (dec_lt at (length s))
-  where
-    go : Dec (at < length s) → f (drop at s) ≡ g (get_or s at 0) (drop at s) (drop (at + 1) s)
-    go (yes h) = rw (here s at h) (p (get_or s at 0) (drop (at + 1) s))
-    go (no h) = rw (beyond s at (omega arith), beyond s (at + 1) (omega arith), byte_outside s at (omega arith)) q
-
--- a test of the byte at a place that holds says that there is a byte
-pub byte_found : (s : List ℕ) (at c : ℕ) → 0 < c → get_or s at 0 ≡ c → at < length s
-byte_found s at c h e = byte_inside s at (λ z. omega arith)
 
 pub byte_tested : (s : List ℕ) (at c : ℕ) (b : Bool) → 0 < c → (eqb (get_or s at 0) c && b) ≡ true → at < length s
 byte_tested s at c b h e = byte_found s at c h (eqb-true _ _ (and_left (eqb (get_or s at 0) c) b e))
 
--- What tests of a byte x say of y, which it is: it is c, it is not c, it is c where the flag b is set, it is of the class p there.
+-- What tests of a byte x say of y, which it is: it is c, it is not c, it is c where the flag b is set, it is of the class p.
 pub byte_is : {x y c : ℕ} → x ≡ y → x ≡ c → y ≡ c
 byte_is e t = sym e ∙ t
 
@@ -48,33 +35,12 @@ byte_not e n t = n (e ∙ t)
 pub byte_and : (c : ℕ) (b : Bool) {x y : ℕ} {t v : Bool} → x ≡ y → t ≡ (eqb x c && b) → t ≡ v → (eqb y c && b) ≡ v
 byte_and c b h e q = rw (← h) (sym e ∙ q)
 
--- a byte that is tested for is in the text; so is one that is tested for where the flag b is set
-pub found_room : (s : List ℕ) (at c : ℕ) {x : ℕ} → x ≡ get_or s at 0 → x ≡ c → 0 < c → at + 1 ≤ length s
-found_room s at c e t l = omega (arith, byte_found s at c l (byte_is e t))
-
+-- a byte that is tested for, where the flag b is set, is in the text
 pub tested_room : (s : List ℕ) (at c : ℕ) (b : Bool) {x : ℕ} {t : Bool} → x ≡ get_or s at 0 → t ≡ (eqb x c && b) → t ≡ true → 0 < c → at + 1 ≤ length s
 tested_room s at c b h e q l = omega (arith, byte_tested s at c b l (byte_and c b h e q))
 
 pub class_is : (p : ℕ → Bool) {x y : ℕ} {t : Bool} → x ≡ y → t ≡ p x → t ≡ p y
 class_is p h e = rw (← h) e
-
-pub byte_class : (p : ℕ → Bool) (b : Bool) {x y : ℕ} {w t v : Bool} → x ≡ y → w ≡ p x → t ≡ (w && b) → t ≡ v → (p y && b) ≡ v
-byte_class p b h k e q = rw (← h, ← k) (sym e ∙ q)
-
--- ONE THING, THEN ANOTHER
-
--- what is found by the flag ok, and then f of it
-pub then_by : {A B : Type 0} (f : A → List ℕ → Found B) (ok : Bool) (a : A) (t : List ℕ) → then (found_by ok a t) f ≡ pick ok (f a t) none
-unfolding then
-then_by f true a t = refl
-then_by f false a t = refl
-
--- MAPPED
-
-pub mapped_by : {A B : Type 0} (g : A → B) (b : Bool) (a : A) (t : List ℕ) → mapped g (found_by b a t) ≡ found_by b (g a) t
-unfolding mapped
-mapped_by g true a t = refl
-mapped_by g false a t = refl
 
 -- CLOSED BY A BRACKET
 
@@ -96,45 +62,36 @@ module _ (s : List ℕ) (at : ℕ) where
   pub byte_no_close : {A : Type 0} (a : A) → begins close_bracket (drop at s) ≡ false → byte close_bracket a (drop at s) ≡ none
   byte_no_close a e = rw e at (byte_closes a)
 
-  module _ {A B : Type 0} (f : A → B) (a : A) (ok : Bool) {r t : Bool} (b : r ≡ begins close_bracket (drop at s)) (q : t ≡ (ok && r)) where
-    pub closed_room : t ≡ true → at < length s
-    closed_room e = begins_room (sym b ∙ and_right ok r (sym q ∙ e))
-
-    closed_is : closed f (found_by ok a (drop at s)) ≡ pick (ok && r) (found (f a) (drop (at + 1) s)) none
-    unfolding closed
-    closed_is = then_by (λ x u. byte close_bracket (f x) u) ok a (drop at s) ∙ go ok
-      where
-        go : (x : Bool) → pick x (byte close_bracket (f a) (drop at s)) none ≡ pick (x && r) (found (f a) (drop (at + 1) s)) none
-        go true = rw b (byte_closes (f a))
-        go false = refl
-
-    pub closed_found : t ≡ true → closed f (found_by ok a (drop at s)) ≡ found (f a) (drop (at + 1) s)
-    closed_found e = closed_is ∙ rw (sym q ∙ e)
-
-    pub closed_none : t ≡ false → closed f (found_by ok a (drop at s)) ≡ none
-    closed_none e = closed_is ∙ rw (sym q ∙ e)
+-- nothing is found, and nothing is closed
+pub none_closed : {A B : Type 0} (f : A → B) → closed f none ≡ none
+unfolding closed then
+none_closed f = refl
 
 -- ANSWERS
 
-module _ {O W A : Type 0} {v : AnswerFields O W A} {x : Found A} {s : List ℕ} {at : ℕ} {o : O} where
+module _ {W A : Type 0} (means : List ℕ → W → A) (fits : List ℕ → W → Type 0) (s : List ℕ) (at : ℕ) where
   -- the same is read from here on
-  pub on_from : {y : Found A} {from : ℕ} → x ≡ y → at ≤ from → ReadsBy v y s from o → ReadsBy v x s at o
-  on_from e l w = record { is = e ∙ w.is; ahead = omega (arith, w.ahead); within = w.within; inside = w.inside }
+  pub on_from : {x y : Found A} (from : ℕ) (o : Option (At W)) → x ≡ y → at ≤ from → ReadsBy means fits y s from o → ReadsBy means fits x s at o
+  on_from from (Some o) e l w = record { is = e ∙ w.is; ahead = omega (arith, w.ahead); within = w.within; inside = w.inside }
+  on_from from None e l w = e ∙ w
 
-  -- what is found, or nothing, up to where the answer says
-  pub read_to : at ≤ v.next o → v.next o ≤ length s → v.inside s (v.ranges o) → x ≡ found_by (v.ok o) (v.value s (v.ranges o)) (drop (v.next o) s)
-      → ReadsBy v x s at o
-  read_to a h i e = record { is = e; ahead = a; within = h; inside = i }
+  -- a value b and a closing bracket, where the ranges w stand for f of b
+  pub closed_read : {B : Type 0} (f : B → A) (b : B) (w : W) (o : Option (At W)) → f b ≡ means s w → fits s w → ClosedAt s at w o → ReadsBy means fits (closed f (found b (drop at s))) s at o
+  unfolding closed then
+  closed_read f b w o e i h = rw h (go (begins close_bracket (drop at s)) refl)
+    where
+      go : (t : Bool) → t ≡ begins close_bracket (drop at s) → ReadsBy means fits (byte close_bracket (f b) (drop at s)) s at (then_some t (record { value = w; next = at + 1 }))
+      go true h = record { is = close_found s at (f b) (sym h) ∙ rw e; ahead = omega arith; within = omega (arith, begins_room s at (sym h)); inside = i }
+      go false h = byte_no_close s at (f b) (sym h)
 
-  -- an integer, as the case f of the ranges, which stands for the case g
-  pub integer_read : {y : Found Numeral} {i : IntegerAt} (f : SignedDigits → W) (g : Numeral → A)
-      → v.value s (f i.integer) ≡ g (numeral_in s i.integer) → (Inside s i.integer.digits → v.inside s (f i.integer))
-      → x ≡ mapped g y → ReadsInteger y s at i → Wraps v f i o → ReadsBy v x s at o
-  integer_read {i = i} f g p j e w k = record {
-    is =
-        e ∙ ap (λ (x : Found Numeral). mapped g x) w.is ∙ mapped_by g i.ok (numeral_in s i.integer) (drop i.integer.digits.end s)
-        ∙ rw (k.ok, k.next, k.is, p);
-    ahead = omega (arith, w.ahead, w.inside.forward, k.next);
-    within = omega (arith, w.inside.within, k.next);
-    inside = rw k.is (j w.inside);
-  }
+  -- an integer as m of it, which stands for g of its numeral
+  pub integer_read : (m : SignedDigits → W) (g : Numeral → A) → ((n : SignedDigits) → g (numeral_in s n) ≡ means s (m n)) → ((n : SignedDigits) → Inside s n.digits → fits s (m n))
+      → {x : Found A} (y : Found Numeral) (i : Option SignedDigits) {o : Option (At W)} → x ≡ mapped g y → ReadsInteger y s at i → As m i o → ReadsBy means fits x s at o
+  unfolding mapped
+  integer_read m g p j y (Some i) e r q = rw q (record {
+    is = e ∙ ap (λ (x : Found Numeral). mapped g x) r.is ∙ rw (p i);
+    ahead = omega (arith, r.ahead, r.inside.forward);
+    within = r.inside.within;
+    inside = j i r.inside;
+  })
+  integer_read m g p j y None e r q = rw q (e ∙ ap (λ (x : Found Numeral). mapped g x) r)

@@ -1,51 +1,51 @@
--- What the functions over words answer: x is what is read from `at` on, o says whether there is any, what it is and where it ends.
-use Rattle.std.specs.Prelude.{ℕ, ◌≤◌, ◌+◌, ◌≡◌, Bool, false, List, [], ◌∷◌, eqb, length, drop, get_or}
-use Rattle.label.specs.Bytes.{digit, run, past}
+-- What the functions over words answer: x is what is read from `at` on, and the option says what it is and where it ends, or that there is none.
+use Rattle.std.specs.Prelude.{ℕ, ◌≤◌, ◌+◌, ◌≡◌, Option, Some, None, Bool, false, List, [], ◌∷◌, eqb, length, drop, get_or}
+use Rattle.std.specs.Bool.{then_some}
+use Rattle.std.specs.Option.{option_map}
+use Rattle.label.specs.Bytes.{close_bracket}
 use Rattle.label.specs.Choice.{pick}
 use Rattle.label.specs.Lexical.{Numeral, Written, Factor}
 use Rattle.label.specs.Parse.{Found, none, found, sign}
 use Rattle.label.specs.Ranges.{digits_in, numeral_in, written_in, factor_in, Inside, PowerInside, FactorInside}
+use Rattle.label.specs.declared.DigitRange.{DigitRange}
 use Rattle.label.specs.declared.SignedDigits.{SignedDigits}
 use Rattle.label.specs.declared.WrittenPower.{WrittenPower}
-use Rattle.label.specs.declared.WrittenPower.TheVariants.{Whole}
 use Rattle.label.specs.declared.WrittenFactor.{WrittenFactor}
-use Rattle.label.specs.declared.WrittenFactor.TheVariants.{TenTo}
-use Rattle.scan.specs.Founds.{found_by}
-use Rattle.tokens.specs.declared.factor.FactorAt.{FactorAt}
-use Rattle.tokens.specs.declared.number.DigitsAt.{DigitsAt}
-use Rattle.tokens.specs.declared.number.IntegerAt.{IntegerAt}
-use Rattle.tokens.specs.declared.power.PowerAt.{PowerAt}
+use Rattle.tokens.specs.declared.At.{At}
 
 -- NUMBERS
 
-abbrev pub digits_found : List ℕ → DigitsAt → Found (List ℕ)
-digits_found s o = found_by o.ok (digits_in s o.digits) (drop o.digits.end s)
+abbrev pub digits_found : List ℕ → DigitRange → Found (List ℕ)
+digits_found s d = found (digits_in s d) (drop d.end s)
 
-pub record ReadsDigits (x : Found (List ℕ)) (s : List ℕ) (at : ℕ) (o : DigitsAt) : Type 0 where
-  pub is : x ≡ digits_found s o
-  pub ahead : at ≤ o.digits.start
-  pub inside : Inside s o.digits
+pub record FoundDigits (x : Found (List ℕ)) (s : List ℕ) (at : ℕ) (d : DigitRange) : Type 0 where
+  pub is : x ≡ digits_found s d
+  pub ahead : at ≤ d.start
+  pub inside : Inside s d
 
--- the byte at `at`, if the flag is set, and the digits after it
-abbrev pub led : Bool → List ℕ → ℕ → Found (List ℕ)
-led first s at = pick first (found (get_or s at 0 ∷ run digit (drop (at + 1) s)) (past digit (drop (at + 1) s))) none
+abbrev pub ReadsDigits : Found (List ℕ) → List ℕ → ℕ → Option DigitRange → Type 0
+ReadsDigits x s at (Some d) = FoundDigits x s at d
+ReadsDigits x s at None = x ≡ none
 
 -- the place after a sign, or `at` where there is none
 abbrev pub sign_end : List ℕ → ℕ → ℕ
 sign_end s at = pick (sign (get_or s at 0)) (at + 1) at
 
 -- digits under a sign
-pub record Signs (b : Bool) (d : DigitsAt) (o : IntegerAt) : Type 0 where
-  pub ok : o.ok ≡ d.ok
-  pub is : o.integer ≡ record { negative = b; digits = d.digits }
+abbrev pub Signs : Bool → Option DigitRange → Option SignedDigits → Type 0
+Signs b d o = o ≡ option_map (λ (r : DigitRange). record { negative = b; digits = r }) d
 
-abbrev pub integer_found : List ℕ → IntegerAt → Found Numeral
-integer_found s o = found_by o.ok (numeral_in s o.integer) (drop o.integer.digits.end s)
+abbrev pub integer_found : List ℕ → SignedDigits → Found Numeral
+integer_found s n = found (numeral_in s n) (drop n.digits.end s)
 
-pub record ReadsInteger (x : Found Numeral) (s : List ℕ) (at : ℕ) (o : IntegerAt) : Type 0 where
-  pub is : x ≡ integer_found s o
-  pub ahead : at ≤ o.integer.digits.start
-  pub inside : Inside s o.integer.digits
+pub record FoundInteger (x : Found Numeral) (s : List ℕ) (at : ℕ) (n : SignedDigits) : Type 0 where
+  pub is : x ≡ integer_found s n
+  pub ahead : at ≤ n.digits.start
+  pub inside : Inside s n.digits
+
+abbrev pub ReadsInteger : Found Numeral → List ℕ → ℕ → Option SignedDigits → Type 0
+ReadsInteger x s at (Some n) = FoundInteger x s at n
+ReadsInteger x s at None = x ≡ none
 
 -- the text begins with the byte c
 unfoldable pub begins : ℕ → List ℕ → Bool
@@ -54,43 +54,31 @@ begins c (d ∷ s) = eqb d c
 
 -- POWERS AND FACTORS
 
--- What an answer O of a reader tells: whether it found any, where it ends, the ranges W that it found, what they stand for in a text (a value of A),
--- and that they are inside the text.
-pub record AnswerFields (O W A : Type 0) : Type 1 where
-  pub ok : O → Bool
-  pub next : O → ℕ
-  pub ranges : O → W
-  pub value : List ℕ → W → A
-  pub inside : List ℕ → W → Type 0
+-- The ranges W that a reader found stand for a value of A in the text, by `means`, and are inside the text, by `fits`.
+pub record FoundAt {W A : Type 0} (means : List ℕ → W → A) (fits : List ℕ → W → Type 0) (x : Found A) (s : List ℕ) (at : ℕ) (o : At W) : Type 0 where
+  pub is : x ≡ found (means s o.value) (drop o.next s)
+  pub ahead : at ≤ o.next
+  pub within : o.next ≤ length s
+  pub inside : fits s o.value
 
-pub record ReadsBy {O W A : Type 0} (v : AnswerFields O W A) (x : Found A) (s : List ℕ) (at : ℕ) (o : O) : Type 0 where
-  pub is : x ≡ found_by (v.ok o) (v.value s (v.ranges o)) (drop (v.next o) s)
-  pub ahead : at ≤ v.next o
-  pub within : v.next o ≤ length s
-  pub inside : v.inside s (v.ranges o)
+abbrev pub ReadsBy : {W A : Type 0} → (List ℕ → W → A) → (List ℕ → W → Type 0) → Found A → List ℕ → ℕ → Option (At W) → Type 0
+ReadsBy means fits x s at (Some o) = FoundAt means fits x s at o
+ReadsBy means fits x s at None = x ≡ none
 
--- an integer under a case of W
-pub record Wraps {O W A : Type 0} (v : AnswerFields O W A) (f : SignedDigits → W) (i : IntegerAt) (o : O) : Type 0 where
-  pub ok : v.ok o ≡ i.ok
-  pub next : v.next o ≡ i.integer.digits.end
-  pub is : v.ranges o ≡ f i.integer
+-- what `answers` gives for a value is g of it
+abbrev pub Makes : {A B : Type 0} → (A → B → Type 0) → (A → B) → Type 0
+Makes {A} {B} answers g = (x : A) (y : B) → answers x y → y ≡ g x
 
-abbrev pub power_answer : AnswerFields PowerAt WrittenPower Written
-power_answer = record { ok = λ o. o.ok; next = λ o. o.next; ranges = λ o. o.power; value = written_in; inside = PowerInside }
+-- an integer, read as g of it
+abbrev pub As : {W : Type 0} → (SignedDigits → W) → Option SignedDigits → Option (At W) → Type 0
+As g i o = o ≡ option_map (λ (n : SignedDigits). record { value = g n; next = n.digits.end }) i
 
-abbrev pub ReadsPower : Found Written → List ℕ → ℕ → PowerAt → Type 0
-ReadsPower = ReadsBy power_answer
+-- a value that the closing bracket at `at` ends
+abbrev pub ClosedAt : {W : Type 0} → List ℕ → ℕ → W → Option (At W) → Type 0
+ClosedAt s at w o = o ≡ then_some (begins close_bracket (drop at s)) (record { value = w; next = at + 1 })
 
--- an integer as a power
-abbrev pub AsPower : IntegerAt → PowerAt → Type 0
-AsPower = Wraps power_answer Whole
+abbrev pub ReadsPower : Found Written → List ℕ → ℕ → Option (At WrittenPower) → Type 0
+ReadsPower = ReadsBy written_in PowerInside
 
-abbrev pub factor_answer : AnswerFields FactorAt WrittenFactor Factor
-factor_answer = record { ok = λ o. o.ok; next = λ o. o.next; ranges = λ o. o.factor; value = factor_in; inside = FactorInside }
-
-abbrev pub ReadsFactor : Found Factor → List ℕ → ℕ → FactorAt → Type 0
-ReadsFactor = ReadsBy factor_answer
-
--- an integer as a power of ten
-abbrev pub AsTens : IntegerAt → FactorAt → Type 0
-AsTens = Wraps factor_answer TenTo
+abbrev pub ReadsFactor : Found Factor → List ℕ → ℕ → Option (At WrittenFactor) → Type 0
+ReadsFactor = ReadsBy factor_in FactorInside

@@ -1,69 +1,54 @@
 // Digits and integers.
-ghost use Rattle.std.specs.Prelude.{◌≤◌, ◌<◌, ◌≡◌, true, length, drop};
+ghost use Rattle.std.specs.Prelude.{◌≤◌, ◌≡◌, length, drop};
 ghost use Rattle.label.specs.Parse.{unsigned, digits, integer};
-ghost use Rattle.tokens.specs.Answers.{led, sign_end, ReadsDigits, ReadsInteger, Signs};
+ghost use Rattle.label.specs.declared.SignedDigits.{SignedDigits};
+ghost use Rattle.tokens.specs.Answers.{As, sign_end, Makes, ReadsDigits, ReadsInteger, Signs};
 
+use crate::At;
 use label::{DigitRange, SignedDigits};
-use scan::class::{byte_at, is_digit, is_nonzero, is_sign};
-
-// Digits from a place on, or none where `ok` is false.
-#[derive(Clone, Copy)]
-pub struct DigitsAt {
-    pub ok: bool,
-    pub digits: DigitRange,
-}
-
-// An integer from a place on, or none where `ok` is false.
-#[derive(Clone, Copy)]
-pub struct IntegerAt {
-    pub ok: bool,
-    pub integer: SignedDigits,
-}
-
-// A byte that may be a first digit, as `first` says, and further digits.
-fn led_by(s: &[u8], at: usize, first: bool) -> DigitsAt
-    requires at_in_bounds { at ≤ length s.now }
-    requires at_in_bounds_2 { first ≡ true → at < length s.now }
-    ensures { ReadsDigits (led first s.now at) s.now at result }
-{
-    if !first {
-        return DigitsAt {
-            ok: false,
-            digits: DigitRange { start: at, end: at },
-        };
-    }
-    let end = scan::run::digits(s, at + 1);
-    DigitsAt {
-        ok: true,
-        digits: DigitRange { start: at, end },
-    }
-}
-
-// A digit 1 to 9, further digits.
-pub fn unsigned(s: &[u8], at: usize) -> DigitsAt
-    requires { at ≤ length s.now }
-    ensures { ReadsDigits (unsigned (drop at s.now)) s.now at result }
-{
-    led_by(s, at, is_nonzero(byte_at(s, at)))
-}
+use scan::class::{byte_at, is_nonzero, is_sign};
 
 // One or more digits.
-pub fn some_digits(s: &[u8], at: usize) -> DigitsAt
+#[tactic(auto, using(crate::proofs::Numbers::digits_read, crate::proofs::Numbers::digits_none))]
+pub fn some_digits(s: &[u8], at: usize) -> Option<DigitRange>
     requires { at ≤ length s.now }
     ensures { ReadsDigits (digits (drop at s.now)) s.now at result }
 {
-    led_by(s, at, is_digit(byte_at(s, at)))
+    let end = scan::run::digits(s, at);
+    (at < end).then_some(DigitRange { start: at, end })
+}
+
+// A digit 1 to 9, further digits.
+#[tactic(auto, using(crate::proofs::Readers::class_is, crate::proofs::Numbers::unsigned_read, crate::proofs::Numbers::unsigned_none))]
+pub fn unsigned(s: &[u8], at: usize) -> Option<DigitRange>
+    requires { at ≤ length s.now }
+    ensures { ReadsDigits (unsigned (drop at s.now)) s.now at result }
+{
+    if is_nonzero(byte_at(s, at)) {
+        return some_digits(s, at);
+    }
+    None
 }
 
 // Digits under a sign.
-pub fn under_sign(negative: bool, d: DigitsAt) -> IntegerAt
+pub fn under_sign(negative: bool, d: Option<DigitRange>) -> Option<SignedDigits>
     ensures { Signs negative d result }
 {
-    let digits = d.digits;
-    IntegerAt {
-        ok: d.ok,
-        integer: SignedDigits { negative, digits },
-    }
+    d.map(|digits| SignedDigits { negative, digits })
+}
+
+// An integer, read as what `f` makes of it.
+pub fn integer_as<T: Copy, F: FnOnce(SignedDigits) -> T>(
+    i: Option<SignedDigits>,
+    f: F,
+) -> Option<At<T>>
+    requires { F.IsAlwaysCallable f }
+    ensures { (g : SignedDigits → T) → Makes (F.post f) g → As g i result }
+{
+    i.map(|n| At {
+        value: f(n),
+        next: n.digits.end,
+    })
 }
 
 // The place after a sign, or `at` where there is none.
@@ -79,7 +64,7 @@ pub fn after_sign(s: &[u8], at: usize) -> usize
 }
 
 // An optional sign, a digit 1 to 9, further digits.
-pub fn integer(s: &[u8], at: usize) -> IntegerAt
+pub fn integer(s: &[u8], at: usize) -> Option<SignedDigits>
     requires { at ≤ length s.now }
     ensures { ReadsInteger (integer (drop at s.now)) s.now at result }
 {

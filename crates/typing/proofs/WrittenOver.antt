@@ -1,7 +1,8 @@
 -- Bytes that are written over a buffer in parts.
-use Prim.Native.Nat.{ℕ, ◌+◌, ◌-◌, ◌≤◌}
+use Prim.Native.Nat.{ℕ, ◌+◌, ◌-◌, ◌≤◌, min}
 use native.Mathlib.Omega.{arith}
-use mathlib.Core.Path.{◌≡◌, sym, ap, ◌∙◌}
+use native.Mathlib.Decide.{dec_le}
+use mathlib.Core.Path.{◌≡◌, refl, sym, ap, ◌∙◌}
 use mathlib.Core.List.{List, [], ◌++◌, append_assoc, append-nil}
 use lib.ListN.{length, take, drop, length-append, length-take, length-drop, drop_of_length-le}
 use lib.Seq.{take_all, take-append_seam, drop-append_seam, take-append-add, take-append-le, take-nil, drop-drop, drop-nil}
@@ -83,16 +84,29 @@ put_tail a b t p e =
     let q : p ≡ t ++ drop (length t) (drop a b) = e ∙ ap (λ (x : List ℕ). t ++ drop (length t) x) lent in
     rw (drop_of_length-le (drop a b) {i = length b - a} (omega (arith, length-drop a b)), append-nil p) (ap (λ (x : List ℕ). take a b ++ x) q)
 
-module _ (a : ℕ) (b u p : List ℕ) where
-  -- all of a part has room
-  pub part_fits : length u ≤ length b - a → p ≡ u ++ drop (length u) (mid_of a (length b - a) b) → put_mid a (length b - a) b p ≡ written_from a u b
-  part_fits h e = put_tail a b u p e ∙ ap (λ (x : List ℕ). take a b ++ x) (sym (written_fitting u (drop a b) (omega (arith, length-drop a b))))
+-- as much of u as fits is all that is written of it
+pub written_cut : (u d : List ℕ) (n : ℕ) → n ≡ min (length u) (length d) → take n u ++ drop n d ≡ written_over u d
+unfolding written_over
+written_cut u d n e = go (dec_le (length u) (length d))
+  where
+    go : Dec (length u ≤ length d) → take n u ++ drop n d ≡ take (length d) u ++ drop (length u) d
+    go (yes h) =
+        let k : n ≡ length u = omega arith in
+        rw (k, take_all (length u) u (omega arith), take_all (length d) u h) refl
+    go (no h) =
+        let k : n ≡ length d = omega arith in
+        rw (k, drop_of_length-le d {i = length d} (omega arith), drop_of_length-le d {i = length u} (omega arith)) refl
 
-  -- as much of a part as has room
-  pub part_cut : (t : List ℕ) (n : ℕ) → t ≡ take n u → length t ≡ n → n ≡ length b - a → n ≤ length u
-      → p ≡ t ++ drop (length t) (mid_of a (length b - a) b) → put_mid a (length b - a) b p ≡ written_from a u b
-  part_cut t n same l room h e =
-      let left : n ≡ length (drop a b) = room ∙ sym (length-drop a b) in
-      put_tail a b t p e
-      ∙ ap (λ (x : List ℕ). take a b ++ (t ++ x)) (drop_of_length-le (drop a b) {i = length t} (omega (arith, left)))
-      ∙ ap (λ (x : List ℕ). take a b ++ x) (append-nil t ∙ same ∙ ap (λ (k : ℕ). take k u) left ∙ sym (written_filling u (drop a b) (omega (arith, left))))
+-- u is written from place a on, as far as there is room: `from` is a, or the end of the buffer where a is past it
+pub part_put : (a : ℕ) (b u : List ℕ) {from size k : ℕ} {p : List ℕ} → from ≡ min a (length b) → size ≡ min (length u) (length b - from) → k ≡ size → p ≡ take size u
+    → put_mid from k b p ≡ written_from a u b
+part_put a b u {from} {size} {k} {p} at room same e = go (dec_le a (length b))
+  where
+    go : Dec (a ≤ length b) → put_mid from k b p ≡ written_from a u b
+    go (yes h) =
+        let f : from ≡ a = omega arith in
+        rw (e, same, f) (ap (λ (x : List ℕ). take a b ++ x) (written_cut u (drop a b) size (omega (arith, length-drop a b))))
+    go (no h) =
+        let f : from ≡ length b = omega arith in
+        let z : size ≡ 0 = omega arith in
+        rw (e, same, f, z, take_all (length b) b (omega arith), drop_of_length-le b {i = length b} (omega arith), append-nil b) (sym (written_past a u b (omega arith)))

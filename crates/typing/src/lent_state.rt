@@ -1,12 +1,12 @@
 // The state of a label that comes in parts, in bytes that a caller lends.
 ghost use Rattle.std.specs.Prelude.{◌+◌, ◌≤◌, ◌≡◌, length, take, drop};
+ghost use Rattle.label.specs.Refusals.{number_in};
 ghost use Rattle.record.specs.Record.{value, buffer_after};
 ghost use Rattle.typing.specs.Typing.{sent, end_reading};
 ghost use Rattle.typing.specs.Layout.{number_bytes, state_size, lent_state, replaced, lent_after_begin, begin_number, lent_after_part, lent_after_end};
-ghost use Rattle.typing.specs.Layout as spec;
 
-use crate::state::{AFTER_THE_END, Typing, end_label, fresh_state, has_ended, take_part};
-use label::MOST_BYTES;
+use crate::state::{Typing, fresh_state};
+use label::{MOST_BYTES, Refusal};
 
 // Places in a lent state, in bytes, and how many bytes it has.
 const COUNT_OFFSET: usize = 4;
@@ -22,20 +22,7 @@ fn four_bytes_at(b: &[u8], at: usize) -> u32
     requires { at + number_bytes ≤ length b.now }
     ensures { result ≡ value (take number_bytes (drop at b.now)) }
 {
-    let first = b[at] as u32;
-    let second = b[at + 1] as u32;
-    let third = b[at + 2] as u32;
-    let fourth = b[at + 3] as u32;
-    first + 256 * (second + 256 * (third + 256 * fourth))
-}
-
-fn ended_byte(ended: bool) -> u8
-    ensures { result ≡ spec.ended_byte ended }
-{
-    if ended {
-        return 1;
-    }
-    0
+    u32::from_le_bytes([b[at], b[at + 1], b[at + 2], b[at + 3]])
 }
 
 // The state that any bytes hold; too few hold one that has ended.
@@ -47,86 +34,61 @@ fn load_state(b: &[u8]) -> Typing
         t.ended = true;
         return t;
     }
-    let mut room = t.room;
-    slices::copy(&b[ROOM_OFFSET..STATE_SIZE], &mut room);
     t.notation = four_bytes_at(b, 0);
     t.count = four_bytes_at(b, COUNT_OFFSET);
     t.ended = b[ENDED_OFFSET] != 0;
-    t.room = room;
+    t.room.copy_from_slice(&b[ROOM_OFFSET..STATE_SIZE]);
     t
 }
 
-// The bytes of a state before its room.
-fn state_head(t: Typing) -> [u8; ROOM_OFFSET]
-    ensures { result ≡ spec.state_head t }
-{
-    let n = t.notation;
-    let c = t.count;
-    let ended = ended_byte(t.ended);
-    [
-        (n % 256) as u8,
-        (n / 256 % 256) as u8,
-        (n / 256 / 256 % 256) as u8,
-        (n / 256 / 256 / 256 % 256) as u8,
-        (c % 256) as u8,
-        (c / 256 % 256) as u8,
-        (c / 256 / 256 % 256) as u8,
-        (c / 256 / 256 / 256 % 256) as u8,
-        ended,
-    ]
-}
-
 // Writes a state over lent bytes that have room for it.
-fn store_state(t: Typing, b: &mut [u8])
+fn store_state(t: &Typing, b: &mut [u8])
     requires { state_size ≤ length b.old }
-    ensures { b.new ≡ replaced b.old t }
+    ensures { b.new ≡ replaced b.old t.now }
 {
-    let head = state_head(t);
-    let room = t.room;
-    slices::copy(&head, b);
-    slices::copy(&room, &mut b[ROOM_OFFSET..]);
+    b[..COUNT_OFFSET].copy_from_slice(&t.notation.to_le_bytes());
+    b[COUNT_OFFSET..ENDED_OFFSET].copy_from_slice(&t.count.to_le_bytes());
+    b[ENDED_OFFSET] = u8::from(t.ended);
+    b[ROOM_OFFSET..STATE_SIZE].copy_from_slice(&t.room);
 }
 
 // Writes a fresh state into lent bytes.
-pub fn begin_lent(notation: u32, state: &mut [u8]) -> u32
-    ensures value { result ≡ begin_number state.old }
+pub fn begin_lent(notation: u32, state: &mut [u8]) -> Result<(), Refusal>
+    ensures value { number_in result ≡ begin_number state.old }
     ensures state_after { state.new ≡ lent_after_begin notation state.old }
 {
     if state.len() < STATE_SIZE {
-        return AFTER_THE_END;
+        return Err(Refusal::AfterTheEnd);
     }
-    let t = fresh_state(notation);
-    store_state(t, state);
-    0
+    store_state(&fresh_state(notation), state);
+    Ok(())
 }
 
 // Takes a part of the label, which may be empty.
-pub fn send_lent(state: &mut [u8], part: &[u8]) -> u32
-    ensures value { result ≡ (sent (lent_state state.old) part.now).number }
+pub fn send_lent(state: &mut [u8], part: &[u8]) -> Result<(), Refusal>
+    ensures value { number_in result ≡ (sent (lent_state state.old) part.now).number }
     ensures state_after { state.new ≡ lent_after_part state.old part.now }
 {
     let t = load_state(state);
-    if has_ended(t) {
-        return AFTER_THE_END;
+    if t.has_ended() {
+        return Err(Refusal::AfterTheEnd);
     }
-    let r = take_part(t, part);
-    let next = r.state;
-    store_state(next, state);
-    r.number
+    store_state(&t.take_part(part).state, state);
+    Ok(())
 }
 
-// Ends the label: its number, its record in the lent buffer where that is 0, and a state that has ended.
-pub fn end_lent(state: &mut [u8], buffer: &mut [u8]) -> u32
-    ensures value { result ≡ (end_reading (lent_state state.old)).number }
+// Ends the label: why it is refused, or its record in the lent buffer, and a state that has ended.
+pub fn end_lent(state: &mut [u8], buffer: &mut [u8]) -> Result<(), Refusal>
+    ensures value { number_in result ≡ (end_reading (lent_state state.old)).number }
     ensures state_after { state.new ≡ lent_after_end state.old }
     ensures buffer_after { buffer.new ≡ buffer_after (end_reading (lent_state state.old)) buffer.old }
 {
-    let t = load_state(state);
-    if has_ended(t) {
-        return AFTER_THE_END;
+    let mut t = load_state(state);
+    if t.has_ended() {
+        return Err(Refusal::AfterTheEnd);
     }
-    let r = end_label(t, buffer);
-    let next = r.state;
-    store_state(next, state);
-    r.number
+    let answer = t.read(buffer);
+    t.ended = true;
+    store_state(&t, state);
+    answer
 }

@@ -1,10 +1,11 @@
 // The state of a label that comes in parts, by value.
 ghost use Rattle.std.specs.Prelude.{◌+◌, ◌≤◌, ◌≡◌, ◌++◌, take, drop};
+ghost use Rattle.label.specs.Refusals.{number_in};
 ghost use Rattle.record.specs.Record.{written_over, buffer_after};
 ghost use Rattle.typing.specs.Typing.{most_counted, fresh_state, has_ended, sent, read_as_typed, end_reading, after_end};
 ghost use Rattle.typing.specs.Typing as spec;
 
-use label::MOST_BYTES;
+use label::{MOST_BYTES, Refusal, number_of_answer};
 use notations::rows::is_notation;
 use record::read_record::read_record;
 
@@ -19,7 +20,8 @@ pub struct Typing {
     pub room: [u8; MOST_BYTES],
 }
 
-// The answer to a part or to an end, and the state after it.
+// The answer to a part or to an end, and the state after it: `sent` of specs/Typing.antt, of which specs/Claims.antt speaks, has this type, and
+// an end answers the number that `record` gives.
 #[derive(Clone, Copy)]
 pub struct Sent {
     pub number: u32,
@@ -28,9 +30,6 @@ pub struct Sent {
 
 // Bytes are counted so far (document 02, W5): a label with so many is too long.
 const MOST_COUNTED: u32 = MOST_BYTES as u32 + 1;
-
-// The refusal of what is sent after the end.
-pub const AFTER_THE_END: u32 = 16;
 
 // The state of a label of which no byte has come.
 pub fn fresh_state(notation: u32) -> Typing
@@ -44,92 +43,84 @@ pub fn fresh_state(notation: u32) -> Typing
     }
 }
 
-// Whether the label has ended. A state with a count that no part gives is taken as ended.
-pub fn has_ended(t: Typing) -> bool
-    ensures { result ≡ has_ended t }
-{
-    if t.ended {
-        return true;
-    }
-    MOST_COUNTED < t.count
-}
-
 // How many bytes have come after `size` more.
 fn capped(count: u32, size: usize) -> u32
     requires { count ≤ most_counted }
     ensures { result ≡ spec.capped (count + size) }
 {
-    let left = MOST_COUNTED - count;
-    if left as usize <= size {
-        return MOST_COUNTED;
-    }
-    count + size as u32
+    size.saturating_add(count as usize)
+        .min(MOST_COUNTED as usize) as u32
 }
 
 // Puts bytes into `room` from a place on, as far as there is room.
 fn put_part(room: &mut [u8], at: usize, part: &[u8])
     ensures { room.new ≡ take at room.old ++ written_over part.now (drop at room.old) }
 {
-    if room.len() <= at {
-        return;
-    }
-    let left = room.len() - at;
-    if left < part.len() {
-        slices::copy(&part[0..left], &mut room[at..]);
-        return;
-    }
-    slices::copy(part, &mut room[at..]);
+    let from = at.min(room.len());
+    let size = part.len().min(room.len() - from);
+    room[from..from + size].copy_from_slice(&part[..size]);
 }
 
-// Takes a part of the label, which may be empty.
-pub fn take_part(t: Typing, part: &[u8]) -> Sent
-    ensures { result ≡ sent t part.now }
-{
-    if has_ended(t) {
-        return Sent {
-            number: AFTER_THE_END,
-            state: t,
-        };
+impl Typing {
+    // Whether the label has ended. A state with a count that no part gives is taken as ended.
+    pub fn has_ended(&self) -> bool
+        ensures { result ≡ has_ended self.now }
+    {
+        self.ended || MOST_COUNTED < self.count
     }
-    let count = t.count;
-    let mut state = t;
-    let mut room = t.room;
-    put_part(&mut room, count as usize, part);
-    state.room = room;
-    state.count = capped(count, part.len());
-    Sent { number: 0, state }
-}
 
-// Reads the label that has come, and answers the number of the refusal, or 0 and the reading's record in the lent buffer.
-fn read_typed(t: Typing, buffer: &mut [u8]) -> u32
-    ensures value { result ≡ (read_as_typed t).number }
-    ensures buffer_after { buffer.new ≡ buffer_after (read_as_typed t) buffer.old }
-{
-    let size = t.count as usize;
-    if MOST_BYTES < size {
-        if is_notation(t.notation) {
-            return 2;
+    // Takes a part of the label, which may be empty.
+    pub fn take_part(mut self, part: &[u8]) -> Sent
+        ensures { result ≡ sent self part.now }
+    {
+        if self.has_ended() {
+            return Sent {
+                number: number_of_answer(Err(Refusal::AfterTheEnd)),
+                state: self,
+            };
         }
-        return 1;
+        let count = self.count;
+        put_part(&mut self.room, count as usize, part);
+        self.count = capped(count, part.len());
+        Sent {
+            number: 0,
+            state: self,
+        }
     }
-    let room = t.room;
-    read_record(t.notation, &room[0..size], buffer)
-}
 
-// Ends the label: its number, its record in the lent buffer where that is 0, and a state that has ended.
-pub fn end_label(t: Typing, buffer: &mut [u8]) -> Sent
-    ensures number_value { result.number ≡ (end_reading t).number }
-    ensures state_value { result.state ≡ after_end t }
-    ensures buffer_after { buffer.new ≡ buffer_after (end_reading t) buffer.old }
-{
-    if has_ended(t) {
-        return Sent {
-            number: AFTER_THE_END,
-            state: t,
-        };
+    // Reads the label that has come, and answers why it is refused, or writes the reading's record in the lent buffer.
+    pub(crate) fn read(&self, buffer: &mut [u8]) -> Result<(), Refusal>
+        ensures value { number_in result ≡ (read_as_typed self.now).number }
+        ensures buffer_after { buffer.new ≡ buffer_after (read_as_typed self.now) buffer.old }
+    {
+        let size = self.count as usize;
+        if MOST_BYTES < size {
+            return Err(if is_notation(self.notation) {
+                Refusal::TooLong
+            } else {
+                Refusal::NoNotation
+            });
+        }
+        read_record(self.notation, &self.room[..size], buffer)
     }
-    let number = read_typed(t, buffer);
-    let mut state = t;
-    state.ended = true;
-    Sent { number, state }
+
+    // Ends the label: its number, its record in the lent buffer where that is 0, and a state that has ended.
+    pub fn end_label(mut self, buffer: &mut [u8]) -> Sent
+        ensures number_value { result.number ≡ (end_reading self).number }
+        ensures state_value { result.state ≡ after_end self }
+        ensures buffer_after { buffer.new ≡ buffer_after (end_reading self) buffer.old }
+    {
+        if self.has_ended() {
+            return Sent {
+                number: number_of_answer(Err(Refusal::AfterTheEnd)),
+                state: self,
+            };
+        }
+        let number = number_of_answer(self.read(buffer));
+        self.ended = true;
+        Sent {
+            number,
+            state: self,
+        }
+    }
 }

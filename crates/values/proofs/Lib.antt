@@ -1,5 +1,3 @@
 -- The laws that this crate's proofs share.
 pub mod OpenBrackets
 pub mod Numbers
-pub mod SignedNumbers
-pub mod Quotients

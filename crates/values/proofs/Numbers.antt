@@ -1,14 +1,16 @@
 -- A run of digits as a number, one digit a turn.
-use Prim.Native.Nat.{ℕ, suc, ◌+◌, ◌*◌, ◌-◌, ◌≤◌, ◌<◌, ◌^◌}
+use Prim.Native.Nat.{ℕ, ◌+◌, ◌*◌, ◌-◌, ◌≤◌, ◌<◌, ◌^◌}
 use native.Mathlib.Omega.{arith}
-use native.Mathlib.Nat.{pow-suc, pow-le-pow_right, mul-le-mul_left, mul_assoc, mul-one, sub_self}
+use native.Mathlib.Nat.{pow-suc, pow-le-pow_right, mul-le-mul_left, mul_assoc, mul-one}
+use native.Mathlib.Numerals.{add-one}
 use mathlib.Core.Path.{◌≡◌, refl}
 use mathlib.Core.List.{List, [], ◌∷◌, ◌++◌}
-use lib.ListN.{length, get_or}
+use lib.ListN.{length, drop, get_or, drop_of_length-le}
+use lib.Seq.{drop-cons}
 use Rattle.label.specs.Limits.{number_from, number}
-use Rattle.label.specs.Ranges.{between, digits_in, Inside}
+use Rattle.label.specs.Ranges.{digits_in, Inside}
 use Rattle.label.specs.declared.DigitRange.{DigitRange}
-use Rattle.label.proofs.Between.{length_between, between_none, between_cons}
+use Rattle.label.proofs.Between.{length_between}
 use Rattle.values.specs.Bounds.{number_bound}
 
 -- the length of a run
@@ -25,43 +27,36 @@ pub number_append : (xs ys : List ℕ) → number (xs ++ ys) ≡ number_from (nu
 unfolding number
 number_append xs ys = from_append 0 xs ys
 
--- value is the number that the digits from start up to i write after n, and 23 more than it is at most tenfold for each
-pub record NumberBefore (s : List ℕ) (n start end i value : ℕ) : Type 0 where
-  pub after : start ≤ i
-  pub before : i ≤ end
-  pub same : number_from value (between s i end) ≡ number_from n (between s start end)
-  pub size : value + 23 ≤ (n + 23) * 10 ^ (i - start)
+-- value is the number that the first i digits of ds write after n, and 23 more than it is at most tenfold for each
+pub record NumberBefore (ds : List ℕ) (n i value : ℕ) : Type 0 where
+  pub same : number_from value (drop i ds) ≡ number_from n ds
+  pub size : value + 23 ≤ (n + 23) * 10 ^ i
 
-pub passed_none : (s : List ℕ) (n start end : ℕ) → start ≤ end → NumberBefore s n start end start n
-passed_none s n start end h = record { after = omega arith; before = h; same = refl; size = rw (sub_self start, mul-one (n + 23)) (omega arith) }
+pub passed_none : (ds : List ℕ) (n : ℕ) → NumberBefore ds n 0 n
+passed_none ds n = record { same = refl; size = rw (mul-one (n + 23)) (omega arith) }
 
 -- fewer digits bring no more
 at_most : (b k m : ℕ) → k ≤ m → b * 10 ^ k ≤ b * 10 ^ m
 at_most b k m h = mul-le-mul_left b (pow-le-pow_right (omega arith) h)
 
-module _ {s : List ℕ} {n start end i value : ℕ} (f : end - start ≤ 4) (w : NumberBefore s n start end i value) where
-  pub passed_size : value + 23 ≤ (n + 23) * 10_000
-  passed_size = omega (arith, at_most (n + 23) (i - start) 4 (omega (arith, w.before)), w.size)
+-- so a few digits after a point have a power of ten that the machine can hold
+pub few_fit : (k : ℕ) → k ≤ 4 → 10 ^ k < 2 ^ 64
+few_fit k h = omega (arith, at_most 1 k 4 h)
+
+module _ {ds : List ℕ} {n i value : ℕ} (w : NumberBefore ds n i value) where
+  pub passed_size : i ≤ 4 → value + 23 ≤ (n + 23) * 10_000
+  passed_size h = omega (arith, at_most (n + 23) i 4 h, w.size)
 
   -- there is room for one digit more
-  pub passed_room : i < end → n < number_bound → value * 10 + 230 ≤ 2_300_220_000
-  passed_room h g = omega (arith, at_most (n + 23) (i - start) 3 (omega (arith, w.after)), w.size)
+  pub passed_room : i < 4 → n < number_bound → value * 10 + 230 ≤ 2_300_220_000
+  passed_room h g = omega (arith, at_most (n + 23) i 3 (omega arith), w.size)
 
-module _ (s : List ℕ) (n start end i value x : ℕ) (l : end ≤ length s) (h : i < end) (e : x ≡ get_or s i 0 - 48) (g : x ≤ 207) where
-  pub passed_more : NumberBefore s n start end i value → NumberBefore s n start end (i + 1) (value * 10 + x)
+  pub passed_more : (x : ℕ) → i < length ds → x ≡ get_or ds i 0 - 48 → x ≤ 207 → NumberBefore ds n (i + 1) (value * 10 + x)
   unfolding number_from
-  passed_more w =
-      let k : i + 1 - start ≡ suc (i - start) = omega (arith, w.after) in
-      let p : (n + 23) * 10 ^ (i + 1 - start) ≡ (n + 23) * 10 ^ (i - start) * 10 = rw (k, pow-suc 10 (i - start), mul_assoc) in
-      record {
-        after = omega (arith, w.after);
-        before = omega arith;
-        same = rw e (rw (between_cons s i end h l) at w.same);
-        size = rw p (omega (arith, w.size));
-      }
+  passed_more x h e g =
+      let p : (n + 23) * 10 ^ (i + 1) ≡ (n + 23) * 10 ^ i * 10 = rw (add-one i, pow-suc 10 i, mul_assoc) in
+      record { same = rw e (rw (drop-cons ds i 0 h, ← add-one i) at w.same); size = rw p (omega (arith, w.size)) }
 
-pub passed_end : (s : List ℕ) (n start end i value : ℕ) → end ≤ i → NumberBefore s n start end i value → value ≡ number_from n (between s start end)
-unfolding number_from
-passed_end s n start end i value h w =
-    let e : i ≡ end = omega (arith, w.before) in
-    rw (between_none s end) at (rw e at w.same)
+  pub passed_end : length ds ≤ i → value ≡ number_from n ds
+  unfolding number_from
+  passed_end h = rw (drop_of_length-le ds h) at w.same

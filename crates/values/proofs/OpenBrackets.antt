@@ -28,14 +28,13 @@ opened_most d c = go (eqb c 40) (eqb c 41)
 
 -- before the byte at i: depth brackets are open, and most is the most that were
 pub record Counted (s : List ℕ) (most depth i : ℕ) : Type 0 where
-  pub within : i ≤ length s
   pub shallow : depth ≤ i
   pub covered : depth ≤ most
   pub same : max most (deepest_from depth (drop i s)) ≡ deepest s
 
 pub counted_none : (s : List ℕ) → Counted s 0 0 0
 unfolding deepest
-counted_none s = record { within = omega arith; shallow = omega arith; covered = omega arith; same = zero-max (deepest_from 0 s) }
+counted_none s = record { shallow = omega arith; covered = omega arith; same = zero-max (deepest_from 0 s) }
 
 pub counted_more : (s : List ℕ) (most depth i m d : ℕ) → i < length s → Counted s most depth i →
     d ≡ opened depth (get_or s i 0) → m ≡ max most d → Counted s m d (i + 1)
@@ -44,7 +43,6 @@ counted_more s most depth i m d h w e f =
     let rest : ℕ = deepest_from d (drop (i + 1) s) in
     let step : deepest_from depth (drop i s) ≡ max depth rest = rw (add-one i, drop-cons s i 0 h, e) in
     record {
-      within = omega arith;
       shallow = omega (arith, w.shallow, opened_most depth (get_or s i 0));
       covered = omega arith;
       same = (let a : max m rest ≡ max most (max depth rest) = omega (arith, w.covered, at_least d (drop (i + 1) s)) in a ∙ rw step at w.same);

@@ -1,4 +1,3 @@
 -- The definitions that this crate's contracts cite beside those of label.
 pub mod Bounds
-pub mod Given
 pub mod Quotients

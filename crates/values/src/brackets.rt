@@ -1,5 +1,5 @@
 // How many brackets are open at once.
-ghost use Rattle.std.specs.Prelude.{◌≡◌, ◌<◌, max};
+ghost use Rattle.std.specs.Prelude.{◌≡◌, ◌<◌};
 ghost use Rattle.label.specs.Limits.{opened, deepest};
 
 // How many brackets are open after the byte `c`, where `depth` were open before it.
@@ -7,40 +7,24 @@ fn opened(depth: usize, c: u8) -> usize
     requires { depth < 18446744073709551615 }
     ensures { result ≡ opened depth c }
 {
-    if c == b'(' {
-        return depth + 1;
+    match c {
+        b'(' => depth + 1,
+        b')' => depth.saturating_sub(1),
+        _ => depth,
     }
-    if c == b')' {
-        if depth == 0 {
-            return 0;
-        }
-        return depth - 1;
-    }
-    depth
-}
-
-// The larger of two numbers.
-fn larger(a: usize, b: usize) -> usize
-    ensures { result ≡ max a b }
-{
-    if a < b {
-        return b;
-    }
-    a
 }
 
 // The most brackets that are open at once. A bracket that closes nothing does not count.
+#[tactic(auto, using(crate::proofs::OpenBrackets::counted_none, crate::proofs::OpenBrackets::counted_more, crate::proofs::OpenBrackets::counted_end))]
 pub fn deepest(s: &[u8]) -> usize
     ensures { result ≡ deepest s.now }
 {
     let mut most = 0;
     let mut depth = 0;
-    let mut i = 0;
-    while i < s.len() {
-        let next = opened(depth, s[i]);
-        most = larger(most, next);
+    for c in s {
+        let next = opened(depth, *c);
+        most = most.max(next);
         depth = next;
-        i += 1;
     }
     most
 }

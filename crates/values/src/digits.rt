@@ -12,9 +12,7 @@ pub fn is_short(d: DigitRange) -> bool
     requires { d.start ≤ d.end }
     ensures { result ≡ leb (d.end - d.start) most_digits }
 {
-    let start = d.start;
-    let end = d.end;
-    end - start <= MOST_DIGITS
+    d.end - d.start <= MOST_DIGITS
 }
 
 // Whether two runs have at most four digits each.
@@ -23,24 +21,19 @@ pub fn are_short(a: DigitRange, b: DigitRange) -> bool
     requires start_le_end_2 { b.start ≤ b.end }
     ensures { result ≡ (leb (a.end - a.start) most_digits && leb (b.end - b.start) most_digits) }
 {
-    if is_short(a) {
-        return is_short(b);
-    }
-    false
+    is_short(a) && is_short(b)
 }
 
 // What a byte counts as a digit: 0 where it is below the digits.
 fn digit_value(c: u8) -> u32
     ensures { (result ≡ c - digit_zero) × (result ≤ 207) }
 {
-    if c < b'0' {
-        return 0;
-    }
-    (c - b'0') as u32
+    u32::from(c.saturating_sub(b'0'))
 }
 
 // The number that a short run of digits writes after the number `n`. specs/Bounds.antt says why it
 // has its bound.
+#[tactic(auto, using(crate::proofs::Numbers::run_length, crate::proofs::Numbers::passed_none, crate::proofs::Numbers::passed_size, crate::proofs::Numbers::passed_room, crate::proofs::Numbers::passed_end))]
 pub fn number_from(s: &[u8], n: u32, d: DigitRange) -> u32
     requires inside { Inside s.now d }
     requires start_bound { d.end - d.start ≤ most_digits }
@@ -48,17 +41,16 @@ pub fn number_from(s: &[u8], n: u32, d: DigitRange) -> u32
     ensures value { result ≡ number_from n (digits_in s.now d) }
     ensures size { result + 23 ≤ (n + 23) * 10000 }
 {
-    let end = d.end;
-    let mut i = d.start;
+    let digits = &s[d.start..d.end];
     let mut value = n;
-    while i < end {
-        value = value * 10 + digit_value(s[i]);
-        i += 1;
+    for c in digits {
+        value = value * 10 + digit_value(*c);
     }
     value
 }
 
 // The number that a short run of digits writes.
+#[tactic(auto, unfolding(label::specs::Limits::number))]
 pub fn number(s: &[u8], d: DigitRange) -> u32
     requires inside { Inside s.now d }
     requires start_bound { d.end - d.start ≤ most_digits }

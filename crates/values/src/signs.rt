@@ -1,16 +1,6 @@
-// Signs: the sign that two signs make, and a number under a sign.
+// A number under a sign.
 ghost use Rattle.std.specs.Prelude.{◌≡◌, ◌<◌, ◌^◌};
-ghost use Rattle.label.specs.Limits.{exclusive_or, signed};
-
-// Exactly one of the two.
-pub fn exclusive_or(a: bool, b: bool) -> bool
-    ensures { result ≡ exclusive_or a b }
-{
-    if a {
-        return !b;
-    }
-    b
-}
+ghost use Rattle.label.specs.Limits.{signed};
 
 // The number `n` under a sign.
 pub fn signed(negative: bool, n: u32) -> i32
@@ -18,8 +8,5 @@ pub fn signed(negative: bool, n: u32) -> i32
     ensures { result ≡ signed negative n }
 {
     let size = n as i32;
-    if negative {
-        return 0 - size;
-    }
-    size
+    if negative { -size } else { size }
 }

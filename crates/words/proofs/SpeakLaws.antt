@@ -1,27 +1,30 @@
 -- What is answered for words that were written, and for a label that is read.
-use Prim.Native.Nat.{ℕ, suc, ◌-◌, ◌≤◌, ◌<◌}
+use Prim.Native.Nat.{ℕ, suc, ◌-◌, ◌≤◌}
 use native.Mathlib.Omega.{arith}
 use mathlib.Core.Path.{◌≡◌, refl, sym, ap, ◌∙◌}
-use mathlib.Core.Logic.{◌≢◌}
 use mathlib.Core.List.{List, [], ◌∷◌, ◌++◌}
 use lib.Dec.{eqb}
-use lib.IntN.{ℤ}
-use lib.ListN.{length, drop}
-use borrow.Author.Tests.{le-leb, lt-leb, eq-eqb, ne_eqb}
-use Rattle.label.specs.Ranges.{between}
+use lib.ListN.{length, take, drop, length-drop}
+use lib.Seq.{take_all}
+use borrow.Author.Tests.{eq-eqb}
+use Rattle.label.specs.declared.Refusal.{Refusal}
+use Rattle.label.specs.Refusals.{number_of}
 use Rattle.label.specs.Reading.{reading}
-use Rattle.label.specs.Words.{Word, spaced_words, joined_words, factor_words, terms_words, words, spoken, most_spoken, speaking, speaking_into}
-use Rattle.label.specs.Writing.{Rewriting, refuse_rewriting, unless, fitted, buffer_with}
-use Rattle.label.proofs.Basics.{drop_take}
+use Rattle.label.specs.Words.{Word, spaced_words, joined_words, factor_words, terms_words, words, spoken, most_spoken, speaking}
+use Rattle.label.specs.Writing.{Rewriting, refuse_rewriting, unless}
 use Rattle.claims.proofs.Longest.{spoken_short}
-use Rattle.descent.specs.Terms.{Lent, count}
-use Rattle.content.specs.Views.{terms_in}
 use Rattle.reading.specs.declared.read.Answer.{Answer}
+use Rattle.reading.specs.declared.read.Content.{Content}
 use Rattle.reading.specs.Views.{reading_in}
-use Rattle.reading.specs.Answers.{ReadingAnswer}
-use Rattle.rewriting.specs.Buffers.{AnswerIs}
-use Rattle.rewriting.proofs.Delivering.{fitted_refusal}
-use Rattle.words.specs.Speech.{HoldsBytes, SaysWords, words_answer}
+use Rattle.reading.specs.Answers.{AcceptedReading}
+use Rattle.reading.proofs.Answering.{accepted_number}
+use Rattle.rewriting.specs.Sources.{source_terms}
+use Rattle.rewriting.proofs.TextLaws.{held_whole, from_start}
+use Rattle.rewriting.proofs.Delivering.{refused_first}
+use Rattle.words.specs.Speech.{SaysWords, ShortWords, words_answer}
+use Rattle.std.specs.Prelude.{Option, Some, None, MatchOption}
+use Rattle.std.specs.Option.{unwrap_or}
+use Rattle.std.specs.Prelude.{min}
 
 -- WORDS WITHOUT THE FIRST SPACE
 
@@ -30,11 +33,6 @@ unfolding joined_words spaced_words
 joined_after [] = refl
 joined_after (w ∷ ws) = refl
 
-joined_size : (ws : List Word) (end : ℕ) → length (spaced_words ws) ≡ end → length (joined_words ws) ≡ end - 1
-unfolding joined_words spaced_words
-joined_size [] end e = omega arith
-joined_size (w ∷ ws) end e = omega arith
-
 spaces_size : (ws : List Word) → length (spaced_words ws) ≤ suc (length (joined_words ws))
 unfolding joined_words spaced_words
 spaces_size [] = omega arith
@@ -42,37 +40,41 @@ spaces_size (w ∷ ws) = omega arith
 
 -- WORDS THAT WERE WRITTEN
 
-module _ {t : List ℕ} {end : ℕ} (ws : List Word) (w : HoldsBytes t end (spaced_words ws)) where
-  -- they are there after the first space
-  words_there : joined_words ws ≡ between t 1 end
-  words_there = joined_after ws ∙ ap (λ (l : List ℕ). drop 1 l) (sym w.is) ∙ drop_take 1 end t
+-- what was written is all of them
+pub written_words : {u v : Option (List ℕ)} {ws : List Word} → ShortWords ws → u ≡ Some [] → SaysWords (suc most_spoken) u ws v → v ≡ Some (spaced_words ws)
+written_words {ws = ws} h e a = from_start e a.says ∙ held_whole (suc most_spoken) (spaced_words ws) h.short
 
-  words_size : length (joined_words ws) ≡ end - 1
-  words_size = joined_size ws end w.length_is
+pub given_words : {B : Type 0} (now : B → List ℕ) (r : Option B) (d : B) {v : Option (List ℕ)} {x : List ℕ} → v ≡ Some x
+    → MatchOption r (v ≡ None) (λ b. v ≡ Some (now b)) → now (unwrap_or r d) ≡ x
+given_words now None d e h = absurd (cc)
+given_words now (Some b) d e h = cc
 
-  pub small_buffer : (size : ℕ) → size < end - 1 → fitted size (words_answer ws) ≡ refuse_rewriting 14
-  unfolding fitted unless
-  small_buffer size h = rw (words_size, lt-leb (end - 1) size h)
+-- without the first space, if there is one
+pub without_space : (ws : List Word) (n : ℕ) → n ≡ min (length (spaced_words ws)) 1 → drop n (spaced_words ws) ≡ joined_words ws
+without_space ws n e = rw e (go (spaced_words ws)) ∙ sym (joined_after ws)
+  where
+    go : (x : List ℕ) → drop (min (length x) 1) x ≡ drop 1 x
+    go [] = refl
+    go (c ∷ x) = let q : min (suc (length x)) 1 ≡ 1 = omega arith in rw q
 
-  words_fit : (size : ℕ) → end - 1 ≤ size → fitted size (words_answer ws) ≡ words_answer ws
-  unfolding fitted unless
-  words_fit size h = rw (words_size, le-leb (end - 1) size h)
+-- the rest of a list
+rest_is : (x : List ℕ) (n : ℕ) → take (length x - n) (drop n x) ≡ drop n x
+rest_is x n = take_all (length x - n) (drop n x) (simp length-drop (omega arith))
 
-  pub words_answered : (size n : ℕ) → n ≡ end - 1 → n ≤ size → AnswerIs (fitted size (words_answer ws)) (record { number = 0; length = n })
-  words_answered size n e h = rw (words_fit size (omega arith)) (record { number = refl; length_is = e ∙ sym words_size })
+-- what is delivered of the words that were written
+pub words_given : {B : Type 0} (now : B → List ℕ) (r : Option B) (d b : B) {v : Option (List ℕ)} (ws : List Word) (n : ℕ) → v ≡ Some (spaced_words ws)
+    → MatchOption r (v ≡ None) (λ c. v ≡ Some (now c)) → b ≡ unwrap_or r d → n ≡ min (length (now b)) 1 → take (length (now b) - n) (drop n (now b)) ≡ joined_words ws
+words_given now r d b ws n k m e f =
+    let q : now b ≡ spaced_words ws = ap now e ∙ given_words now r d k m in
+    rest_is (now b) n ∙ ap (λ (x : List ℕ). drop n x) q ∙ without_space ws n (f ∙ ap (λ (x : List ℕ). min (length x) 1) q)
 
-  pub no_words_written : (size : ℕ) (b : List ℕ) → end ≡ 0 → b ≡ buffer_with (fitted size (words_answer ws)) b
-  unfolding buffer_with
-  no_words_written size b e =
-      let q : between t 1 end ≡ [] = rw e refl in
-      rw (words_fit size (omega arith), words_there, q) refl
+joined_short : (ws : List Word) → length (joined_words ws) ≤ length (spaced_words ws)
+unfolding joined_words spaced_words
+joined_short [] = omega arith
+joined_short (w ∷ ws) = omega arith
 
-  -- what a copy of them leaves
-  pub words_copied : (size : ℕ) (c d : List ℕ) → end - 1 ≤ size
-      → d ≡ between t 1 end ++ drop (length (between t 1 end)) c → d ≡ buffer_with (fitted size (words_answer ws)) c
-  unfolding buffer_with
-  words_copied size c d h e =
-      e ∙ rw (words_fit size h, ← words_there) refl
+pub words_fit : {x : List ℕ} {ws : List Word} → x ≡ joined_words ws → ShortWords ws → length x ≤ suc most_spoken
+words_fit {ws = ws} e h = omega (arith, ap length e, joined_short ws, h.short)
 
 -- A LABEL THAT IS READ
 
@@ -80,31 +82,24 @@ unrefused : (i : ℕ) (x : Rewriting) → i ≡ 0 → unless (eqb i 0) i x ≡ x
 unfolding unless
 unrefused i x e = rw (eq-eqb i 0 e)
 
-module _ {n : ℕ} {s : List ℕ} {t : Lent} {x : List ℕ} {ds cs : List ℤ} {r : Answer} (w : ReadingAnswer n s t x ds cs r) (size : ℕ) where
-  pub label_refused : r.number ≢ 0 → speaking_into size n s ≡ refuse_rewriting r.number
-  unfolding speaking_into speaking unless
-  label_refused h = rw (← w.number, ne_eqb r.number 0 h) (fitted_refusal size r.number)
+module _ (n : ℕ) (s : List ℕ) where
+  pub label_refused : (e : Refusal) → number_of e ≡ (reading n s).number → speaking n s ≡ refuse_rewriting (number_of e)
+  unfolding speaking
+  label_refused e h = refused_first _ e h
 
-  module _ (zero : r.number ≡ 0) where
-    abbrev label_words : List Word
-    label_words = factor_words r.k ++ terms_words (terms_in s t x (count t))
+module _ {n : ℕ} {s : List ℕ} {c : Content} {a : Answer} (w : AcceptedReading n s c a) where
+  abbrev label_words : List Word
+  label_words = factor_words a.k ++ terms_words (source_terms s c)
 
-    words_are : words (reading n s) ≡ label_words
-    unfolding words reading_in
-    words_are = rw (← w.is zero) refl
+  words_are : words (reading n s) ≡ label_words
+  unfolding words reading_in
+  words_are = rw (← w.is) refl
 
-    pub label_spoken : speaking_into size n s ≡ fitted size (words_answer label_words)
-    unfolding speaking_into speaking spoken
-    label_spoken =
-        ap (λ (y : Rewriting). fitted size y) (unrefused (reading n s).number _ (sym w.number ∙ zero)) ∙ ap (λ (l : List Word). fitted size (words_answer l)) words_are
+  pub label_spoken : speaking n s ≡ words_answer label_words
+  unfolding speaking spoken
+  label_spoken = unrefused (reading n s).number _ (accepted_number w) ∙ ap (λ (l : List Word). words_answer l) words_are
 
-    -- there is room for the words in an array of one byte more than the most
-    label_short : length (spaced_words label_words) ≤ suc most_spoken
-    unfolding spoken
-    label_short = let short = rw words_are at (spoken_short n s (sym w.number ∙ zero)) in omega (arith, short, spaces_size label_words)
-
-    pub room_for_words : {b c : List ℕ} {end : ℕ} → length b ≡ suc most_spoken → SaysWords b 0 label_words c end → HoldsBytes c end (spaced_words label_words)
-    room_for_words h v = v.says.adds [] (omega (arith, h, label_short)) (record { length_is = refl; is = refl })
-
-    pub end_in_room : {b c : List ℕ} {end : ℕ} → length b ≡ suc most_spoken → SaysWords b 0 label_words c end → end ≤ length c
-    end_in_room h v = omega (arith, h, v.says.kept, label_short, (room_for_words h v).length_is)
+  -- there is room for the words in an array of one byte more than the most
+  pub label_short : ShortWords label_words
+  unfolding spoken
+  label_short = let short = rw words_are at (spoken_short n s (accepted_number w)) in record { short = omega (arith, short, spaces_size label_words) }

@@ -1,23 +1,18 @@
--- Words that are written into an array, and what is answered for them.
-use Rattle.std.specs.Prelude.{ℕ, ◌≤◌, ◌≡◌, Bool, List, [], ◌∷◌, ◌++◌, length, take}
+-- Words that are written into a text, and what is answered for them.
+use Rattle.std.specs.Prelude.{ℕ, suc, ◌≤◌, Bool, List, [], ◌∷◌, ◌++◌, length, Option}
 use Rattle.label.specs.Bytes.{bytes}
 use Rattle.label.specs.Choice.{pick}
-use Rattle.label.specs.Words.{Word, spaced_words, joined_words}
+use Rattle.label.specs.Words.{Word, spaced_words, joined_words, most_spoken}
 use Rattle.label.specs.Writing.{figures, Rewriting}
+use Rattle.rewriting.specs.Texts.{Writes}
 
--- the bytes x are the first of the array b, and end at the place `at`
-pub record HoldsBytes (b : List ℕ) (at : ℕ) (x : List ℕ) : Type 0 where
-  pub length_is : length x ≡ at
-  pub is : take at b ≡ x
+-- from the value v to w of an array of n bytes, words are written after what was there, each after a space
+pub record SaysWords (n : ℕ) (v : Option (List ℕ)) (ws : List Word) (w : Option (List ℕ)) : Type 0 where
+  pub says : Writes n v (spaced_words ws) w
 
--- from the array b to c, and from the place at to r, the bytes s are written after what was there, if there is room for them
-pub record Says (b : List ℕ) (at : ℕ) (s : List ℕ) (c : List ℕ) (r : ℕ) : Type 0 where
-  pub kept : length c ≡ length b
-  pub adds : (x : List ℕ) → length (x ++ s) ≤ length b → HoldsBytes b at x → HoldsBytes c r (x ++ s)
-
--- the same of words, each after a space
-pub record SaysWords (b : List ℕ) (at : ℕ) (ws : List Word) (c : List ℕ) (r : ℕ) : Type 0 where
-  pub says : Says b at (spaced_words ws) c r
+-- there is room for words in an array of one byte more than the most
+pub record ShortWords (ws : List Word) : Type 0 where
+  pub short : length (spaced_words ws) ≤ suc most_spoken
 
 -- a whole number by its sign and its size
 abbrev pub integer_words : Bool → ℕ → List Word

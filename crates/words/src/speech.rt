@@ -1,27 +1,13 @@
-// Words that are written into an array one after the other, each after a space. What has no room in the array is left out.
+// Words that are written into a text one after the other, each after a space.
 ghost use Rattle.std.specs.Prelude.{[], ◌∷◌};
-ghost use Rattle.words.specs.Speech.{Says, SaysWords};
+ghost use Rattle.words.specs.Speech.{SaysWords};
 
-// Writes a byte.
-pub fn say_byte(text: &mut [u8], at: usize, byte: u8) -> usize
-    ensures { Says text.old at (byte ∷ []) text.new result }
-{
-    if at < text.len() {
-        text[at] = byte;
-        return at + 1;
-    }
-    at
-}
+use rewriting::text::Text;
 
 // Writes a word.
-pub fn say(text: &mut [u8], at: usize, word: &[u8]) -> usize
-    ensures { SaysWords text.old at (word.now ∷ []) text.new result }
+pub fn say<const N: usize>(text: &mut Text<N>, word: &[u8])
+    ensures { SaysWords N text.old (word.now ∷ []) text.new }
 {
-    let mut place = say_byte(text, at, b' ');
-    let mut i = 0;
-    while i < word.len() {
-        place = say_byte(text, place, word[i]);
-        i += 1;
-    }
-    place
+    text.push(b' ');
+    text.append(word);
 }

@@ -1,103 +1,77 @@
 // Numbers in words: k and exponents.
-ghost use Rattle.std.specs.Prelude.{◌≡◌, false, [], ◌∷◌, eqb};
+ghost use Rattle.std.specs.Prelude.{[], ◌∷◌};
 ghost use Rattle.label.specs.Bytes.{bytes};
-ghost use Rattle.label.specs.Choice.{pick};
-ghost use Rattle.label.specs.Limits.{parts_of_one};
-ghost use Rattle.label.specs.Writing.{figures_before, figures};
+ghost use Rattle.label.specs.Writing.{figures};
 ghost use Rattle.label.specs.Words.{factor_words, over_words, exponent_words};
-ghost use Rattle.words.specs.Speech.{Says, SaysWords, integer_words};
+ghost use Rattle.words.specs.Speech.{SaysWords, integer_words};
 
-use crate::speech::{say, say_byte};
+use crate::speech::say;
 use label::{Exponent, PARTS_OF_ONE, Tens};
 use rewriting::exponent_text::denominator;
-use rewriting::figures::{MOST_FIGURES, is_negative, magnitude};
-
-// Writes the last `most` digits of a number, or all of them where it has fewer.
-fn say_figures(text: &mut [u8], at: usize, most: u8, n: u64) -> usize
-    ensures { Says text.old at (figures_before most n []) text.new result }
-{
-    if most == 0 {
-        return at;
-    }
-    if n < 10 {
-        return say_byte(text, at, b'0' + n as u8);
-    }
-    let last = say_figures(text, at, most - 1, n / 10);
-    say_byte(text, last, b'0' + (n % 10) as u8)
-}
+use rewriting::figures::{MOST_FIGURES, push_figures};
+use rewriting::text::Text;
 
 // Writes a number of at most 4 digits.
-fn say_number(text: &mut [u8], at: usize, n: u64) -> usize
-    ensures { SaysWords text.old at (figures n ∷ []) text.new result }
+fn say_number<const N: usize>(text: &mut Text<N>, n: u64)
+    ensures { SaysWords N text.old (figures n ∷ []) text.new }
 {
-    let digits = say_byte(text, at, b' ');
-    say_figures(text, digits, MOST_FIGURES, n)
+    text.push(b' ');
+    push_figures(text, MOST_FIGURES, n);
 }
 
 // Writes a number with its sign.
-fn say_integer(text: &mut [u8], at: usize, negative: bool, n: u64) -> usize
-    ensures { SaysWords text.old at (integer_words negative n) text.new result }
+fn say_integer<const N: usize>(text: &mut Text<N>, negative: bool, n: u64)
+    ensures { SaysWords N text.old (integer_words negative n) text.new }
 {
     if negative {
-        let number = say(text, at, b"minus");
-        return say_number(text, number, n);
+        say(text, b"minus");
     }
-    say_number(text, at, n)
+    say_number(text, n);
 }
 
 // Writes what comes before an exponent.
-fn say_to_the(text: &mut [u8], at: usize) -> usize
-    ensures { SaysWords text.old at (bytes "to" ∷ bytes "the" ∷ []) text.new result }
+fn say_to_the<const N: usize>(text: &mut Text<N>)
+    ensures { SaysWords N text.old (bytes "to" ∷ bytes "the" ∷ []) text.new }
 {
-    let the = say(text, at, b"to");
-    say(text, the, b"the")
+    say(text, b"to");
+    say(text, b"the");
 }
 
 // Writes ten to the k, or nothing where k is 0.
-pub fn say_factor(text: &mut [u8], at: usize, k: Tens) -> usize
-    ensures { SaysWords text.old at (factor_words k) text.new result }
+pub fn say_factor<const N: usize>(text: &mut Text<N>, k: Tens)
+    ensures { SaysWords N text.old (factor_words k) text.new }
 {
-    let size = magnitude(k.0);
+    let size = u64::from(k.0.unsigned_abs());
     if size == 0 {
-        return at;
+        return;
     }
-    let to = say(text, at, b"ten");
-    let number = say_to_the(text, to);
-    say_integer(text, number, is_negative(k.0), size)
+    say(text, b"ten");
+    say_to_the(text);
+    say_integer(text, k.0 < 0, size);
 }
 
 // Writes a denominator, or nothing where it is 1.
-fn say_over(text: &mut [u8], at: usize, d: u64) -> usize
-    ensures { SaysWords text.old at (over_words d) text.new result }
+fn say_over<const N: usize>(text: &mut Text<N>, d: u64)
+    ensures { SaysWords N text.old (over_words d) text.new }
 {
     if d == 1 {
-        return at;
+        return;
     }
-    let number = say(text, at, b"over");
-    say_number(text, number, d)
-}
-
-// Whether so many sixtieths are 1.
-fn is_unity(negative: bool, sixtieths: u64) -> bool
-    ensures { result ≡ pick negative false (eqb sixtieths parts_of_one) }
-{
-    if negative {
-        return false;
-    }
-    sixtieths == PARTS_OF_ONE
+    say(text, b"over");
+    say_number(text, d);
 }
 
 // Writes an exponent in lowest terms, or nothing where it is 1.
-pub fn say_exponent(text: &mut [u8], at: usize, exponent: Exponent) -> usize
-    ensures { SaysWords text.old at (exponent_words exponent) text.new result }
+pub fn say_exponent<const N: usize>(text: &mut Text<N>, exponent: Exponent)
+    ensures { SaysWords N text.old (exponent_words exponent) text.new }
 {
-    let sixtieths = magnitude(exponent.0);
-    let negative = is_negative(exponent.0);
-    if is_unity(negative, sixtieths) {
-        return at;
+    let sixtieths = u64::from(exponent.0.unsigned_abs());
+    let negative = exponent.0 < 0;
+    if !negative && sixtieths == PARTS_OF_ONE {
+        return;
     }
     let d = denominator(sixtieths);
-    let number = say_to_the(text, at);
-    let over = say_integer(text, number, negative, sixtieths * d / PARTS_OF_ONE);
-    say_over(text, over, d)
+    say_to_the(text);
+    say_integer(text, negative, sixtieths * d / PARTS_OF_ONE);
+    say_over(text, d);
 }

@@ -1,84 +1,60 @@
 // The terms of a label in words.
-ghost use Rattle.std.specs.Prelude.{◌≤◌, ◌≡◌, [], ◌∷◌, ◌++◌, length};
+ghost use Rattle.std.specs.Prelude.{[], ◌∷◌, ◌++◌};
 ghost use Rattle.label.specs.Bytes.{bytes};
-ghost use Rattle.label.specs.Ranges.{between};
 ghost use Rattle.label.specs.Words.{letter_words, symbol_words, exponent_words, factor_words, terms_words};
 ghost use Rattle.symbols.specs.Views.{symbol_in};
-ghost use Rattle.descent.specs.Terms.{lent, count};
-ghost use Rattle.content.specs.Views.{terms_in};
-ghost use Rattle.rewriting.specs.Units.{LettersInside, AllTerms};
+ghost use Rattle.rewriting.specs.Units.{LettersInside};
+ghost use Rattle.rewriting.specs.Sources.{AllTerms, source_terms};
 ghost use Rattle.words.specs.Speech.{SaysWords};
-ghost use Rattle.words.specs.SpokenNames.{names_column};
 
-use crate::speech::{say, say_byte};
-use crate::spoken_names::{say_prefix, say_unit, spoken_names};
+use crate::speech::say;
+use crate::spoken_names::{say_prefix, say_unit};
 use crate::spoken_numbers::{say_exponent, say_factor};
-use content::named::NAME_PLACES;
-use descent::terms::{COUNT, PLACES};
-use label::{Exponent, MOST_TERMS, Tens};
-use rewriting::source::unit_at;
-use symbols::SymbolAt;
+use label::Tens;
+use reading::read::Content;
+use rewriting::text::Text;
+use symbols::{SymbolAt, UnitAt};
 
-// Writes the letters of the label `s` from `start` up to `end` one by one.
-fn say_letters(text: &mut [u8], at: usize, s: &[u8], start: usize, end: usize) -> usize
-    requires { (start ≤ end) × (end ≤ length s.now) }
-    ensures { SaysWords text.old at (letter_words (between s.now start end)) text.new result }
+// Writes the letters one by one.
+fn say_letters<const N: usize>(text: &mut Text<N>, letters: &[u8])
+    ensures { SaysWords N text.old (letter_words letters.now) text.new }
 {
-    let mut place = at;
-    let mut i = start;
-    while i < end {
-        let letter = say_byte(text, place, b' ');
-        place = say_byte(text, letter, s[i]);
-        i += 1;
+    for letter in letters {
+        text.push(b' ');
+        text.push(*letter);
     }
-    place
 }
 
-// Writes an unknown unit of the label `s` with those letters.
-fn say_unknown(text: &mut [u8], at: usize, s: &[u8], start: usize, end: usize) -> usize
-    requires { (start ≤ end) × (end ≤ length s.now) }
-    ensures { SaysWords text.old at (bytes "unit" ∷ letter_words (between s.now start end) ++ bytes "end" ∷ []) text.new result }
+// Writes an unknown unit with those letters.
+fn say_unknown<const N: usize>(text: &mut Text<N>, letters: &[u8])
+    ensures { SaysWords N text.old (bytes "unit" ∷ letter_words letters.now ++ bytes "end" ∷ []) text.new }
 {
-    let first = say(text, at, b"unit");
-    let last = say_letters(text, first, s, start, end);
-    say(text, last, b"end")
+    say(text, b"unit");
+    say_letters(text, letters);
+    say(text, b"end");
 }
 
 // Writes a unit of the label `s` with its prefix.
-fn say_symbol(text: &mut [u8], at: usize, names: &[u8], s: &[u8], unit: SymbolAt) -> usize
-    requires { (names.now ≡ names_column) × LettersInside s.now unit }
-    ensures { SaysWords text.old at (symbol_words (symbol_in s.now unit)) text.new result }
+fn say_symbol<const N: usize>(text: &mut Text<N>, s: &[u8], symbol: SymbolAt)
+    requires { LettersInside s.now symbol }
+    ensures { SaysWords N text.old (symbol_words (symbol_in s.now symbol)) text.new }
 {
-    let name = say_prefix(text, at, names, unit.prefix);
-    if unit.known {
-        return say_unit(text, name, names, unit.unit);
+    say_prefix(text, symbol.prefix);
+    match symbol.unit {
+        UnitAt::Known(unit) => say_unit(text, unit),
+        UnitAt::Unknown(letters) => say_unknown(text, &s[letters.start..letters.end]),
     }
-    say_unknown(text, name, s, unit.start, unit.end)
 }
 
-// Writes the factor and the terms, from the array's start.
-pub fn say_label(
-    text: &mut [u8],
-    k: Tens,
-    s: &[u8],
-    places: &[usize; PLACES],
-    exponents: &[i32; MOST_TERMS],
-    names: &[u8; NAME_PLACES],
-) -> usize
-    requires { AllTerms s.now places.now names.now }
-    ensures { SaysWords text.old 0 (factor_words k
-        ++ terms_words (terms_in s.now (lent places.now exponents.now) names.now
-        (count (lent places.now exponents.now)))) text.new result }
+// Writes the factor and the terms.
+pub fn say_label<const N: usize>(text: &mut Text<N>, k: Tens, s: &[u8], content: &Content)
+    requires { AllTerms s.now content.now }
+    ensures { SaysWords N text.old (factor_words k ++ terms_words (source_terms s.now content.now)) text.new }
 {
-    let spoken = spoken_names();
-    let count = places[COUNT];
-    let mut place = say_factor(text, 0, k);
-    let mut i = 0;
-    while i < count {
-        let unit = unit_at(names, i);
-        let exponent = say_symbol(text, place, &spoken, s, unit);
-        place = say_exponent(text, exponent, Exponent(exponents[i]));
-        i += 1;
+    say_factor(text, k);
+    // By index: a term and its symbol stand at one place of two arrays, as `descent` knows no symbols.
+    for i in 0..content.terms.count {
+        say_symbol(text, s, content.symbols[i]);
+        say_exponent(text, content.terms.items[i].exponent);
     }
-    place
 }

@@ -1,20 +1,21 @@
--- `slices::find` meets its contract: each way is one of `Finding`.
-use Rattle.std.proofs.Common.{◌≡◌, sym, ◌∙◌, arith, eq-eqb, ne_eqb}
-use Rattle.slices.proofs.Finding.{found_here, found_later, found_nowhere}
+-- `slices::find` meets its contract: its search is the library's.
+use Rattle.std.proofs.Common.{◌≡◌, ◌+◌, ap, arith, eqb, rules, sym, tests, ◌∙◌}
+use Rattle.std.specs.List.{position}
+use Rattle.std.proofs.lemmas.Iterator.{YieldsList-from_slice}
+use Rattle.std.proofs.lemmas.Iterator.Search.{position_from_yields_List}
+use Rattle.slices.specs.Slices.{slice}
+use Rattle.slices.proofs.Finding.{found, missed, length_slice}
 use Rattle.slices.proofs.find.Goals as goal
 
-pub returns-then-s-i-clause-is : goal.returns-then-s-i-clause-is
-returns-then-s-i-clause-is c =
-    sym (c.loop-i.invariant.is ∙ found_here c.args.byte c.loop-i.i c.args.end c.args.s.now c.loop-i-test.true c.requires.end_within (eq-eqb _ _ c.if-s-i.true))
+pub returns-in-Some-clause-is : goal.returns-in-Some-clause-is
+unfolding slice
+returns-in-Some-clause-is c =
+    let e : c.position.result ≡ position (λ d. eqb d c.args.byte) (slice c.args.start c.args.end c.args.s.now) = position_from_yields_List (λ d. eqb d c.args.byte) _ _ c.position.result c.position.ensures.ran (YieldsList-from_slice _ c.iter.ensures.rest) (λ x b q k. search (rules, tests)) in
+    ap (λ n. c.args.start + n) (found c.args.byte _ c.in-Some.i (sym e ∙ c.in-Some.is))
 
-pub loop-i-preserved : goal.loop-i-preserved
-loop-i-preserved c =
-    record {
-      within = omega arith;
-      is = c.loop-i.invariant.is ∙ found_later c.args.byte c.loop-i.i c.args.end c.args.s.now c.loop-i-test.true c.requires.end_within (ne_eqb _ _ c.if-s-i.false);
-    }
-
-pub returns-clause-is : goal.returns-clause-is
-returns-clause-is c =
-    let e : c.loop-i.i ≡ c.args.end = omega arith in
-    sym (c.loop-i.invariant.is ∙ rw e (found_nowhere c.args.byte c.args.end c.args.s.now))
+pub returns-in-None-clause-is : goal.returns-in-None-clause-is
+unfolding slice
+returns-in-None-clause-is c =
+    let e : c.position.result ≡ position (λ d. eqb d c.args.byte) (slice c.args.start c.args.end c.args.s.now) = position_from_yields_List (λ d. eqb d c.args.byte) _ _ c.position.result c.position.ensures.ran (YieldsList-from_slice _ c.iter.ensures.rest) (λ x b q k. search (rules, tests)) in
+    let m = missed c.args.byte (slice c.args.start c.args.end c.args.s.now) (sym e ∙ c.in-None.is) in
+    omega (arith, m, length_slice c.args.start c.args.end c.args.s.now c.requires.end_within)

@@ -1,38 +1,55 @@
 -- `content::dimensions::dimensions` meets its contract. The invariant: the sums are totals over the terms passed, and small.
 use native.Mathlib.Omega.{arith}
-use mathlib.Core.Path.{◌≡◌, sym, ap, ◌∙◌}
+use mathlib.Core.Path.{◌≡◌, ap}
 use mathlib.Core.List.{[]}
-use lib.ListN.{length}
-use mir.Facts.{to_z-of_z}
+use lib.ListN.{length, length-append}
+use Rattle.std.proofs.lemmas.Slice.Zip.{zip_turn, zip_end}
 use Rattle.label.specs.Reading.{base_in}
+use Rattle.descent.specs.declared.terms.Term.{Term}
+use Rattle.descent.specs.Terms.{count, terms}
 use Rattle.content.specs.Views.{terms_in}
+use Rattle.content.proofs.Turns.{Turn, turn, turns}
 use Rattle.content.proofs.TotalLaws.{no_totals, one_total, zeros_within, summable, bound_more, dimensions_are}
-use borrow.Author.Rules.{rules}
 use Rattle.content.proofs.dimensions.dimensions.Goals as goal
 
-pub loop-i-init : goal.loop-i-init
+pub loop-term-init : goal.loop-term-init
 unfolding terms_in
-loop-i-init c = (omega arith, (rw c.requires.1 (zeros_within 32 _), λ s p. rw c.requires.1 (no_totals base_in _)))
+loop-term-init c = record { small = rw c.requires.1 (zeros_within 32 _); totals = λ s. rw c.requires.1 (no_totals base_in _) }
 
 pub add_bases-requires : goal.add_bases-requires
-add_bases-requires c = (
-  c.unit_bases-bases.ensures,
-  (c.unit_powers-powers.ensures, summable c.loop-i.i (c.loop-i.invariant.1.1 [] []).room (omega arith) c.loop-i.invariant.1.0),
-)
+add_bases-requires c =
+    let t = c.args.terms.now in
+    let x = c.args.symbols.now in
+    let i = length c.loop-term.yielded in
+    let at : Turn t x i c.in-Some.term.now c.in-Some.symbol.now =
+    turn t x i
+    (zip_turn (terms t (count t)) x c.loop-term.yielded c.into_iter-term-iterator.result c.loop-term.term-iterator c.next.new.self c.next.result
+    (cc) (cc) c.loop-term.yielded_by _ c.in-Some.is c.next.ensures.steps) in
+    summable i (c.loop-term.invariant.totals []).room (omega arith) c.loop-term.invariant.small
 
-pub loop-i-preserved : goal.loop-i-preserved
-loop-i-preserved c =
-    let added = c.add_bases.ensures in
-    let more = bound_more c.loop-i.i c.loop-i.invariant.1.0 (added []) in (
-      omega arith,
-      (more, λ s p. one_total s _ _ c.loop-i.i c.symbol_at-x.result (c.symbol_at-x.ensures s) _ (search (to_z-of_z, rules)) (c.loop-i.invariant.1.1 s p) (added s)),
-    )
-
-pub shape_of-sums : goal.shape_of-sums
-shape_of-sums c = (c.loop-i.invariant.1.1 [] []).room ∙ sym (ap length c.requires.1)
+pub loop-term-preserved : goal.loop-term-preserved
+loop-term-preserved c =
+    let t = c.args.terms.now in
+    let x = c.args.symbols.now in
+    let i = length c.loop-term.yielded in
+    let at : Turn t x i c.in-Some.term.now c.in-Some.symbol.now =
+    turn t x i
+    (zip_turn (terms t (count t)) x c.loop-term.yielded c.into_iter-term-iterator.result c.loop-term.term-iterator c.next.new.self c.next.result
+    (cc) (cc) c.loop-term.yielded_by _ c.in-Some.is c.next.ensures.steps) in
+    let more = bound_more i c.loop-term.invariant.small (c.add_bases.ensures []) in
+    rw length-append (record {
+      small = more;
+      totals = λ s. one_total s t x i at.symbol (ap (λ (a : Term). a.exponent) at.term) (c.loop-term.invariant.totals s) (c.add_bases.ensures s);
+    })
 
 pub returns : goal.returns
 returns c =
-    λ s p.
-    let e : c.loop-i.i ≡ c.args.count = omega arith in
-    rw (← e) (dimensions_are _ _ (c.loop-i.invariant.1.1 s p))
+    let t = c.args.terms.now in
+    let x = c.args.symbols.now in
+    let i = length c.loop-term.yielded in
+    let room : length (terms t (count t)) ≡ count t = omega arith in
+    let e : i ≡ count t =
+    turns t x i
+    (zip_end (terms t (count t)) x c.loop-term.yielded c.into_iter-term-iterator.result c.loop-term.term-iterator c.next.new.self c.next.result
+    (cc) (cc) c.loop-term.yielded_by c.in-None.is c.next.ensures.steps) room (omega arith) in
+    λ s. rw e at (dimensions_are (terms_in s t x i) c.loop-term.sums (c.loop-term.invariant.totals s))

@@ -1,4 +1,4 @@
-use Prim.Native.Nat.{ℕ, ◌≤◌, ◌-◌}
+use Prim.Native.Nat.{ℕ}
 use mathlib.Core.List.{List}
 use Rattle.label.specs.Units.{◌↑◌}
 use Rattle.label.specs.Reading.{prime_in}
@@ -9,7 +9,4 @@ use Rattle.content.proofs.scale.add_primes.Given as goal
 
 abbrev pub invariant-loop-prime : goal.invariant-loop-prime
 invariant-loop-prime l =
-    (l.prime ≤ 4) × ((s : List ℕ) → Gathered (λ j. j ↑ prime_in (prime_at j) (symbol_in s l.x)) l.prime l.e l.initial.sums l.sums)
-
-abbrev pub decreases-loop-prime : goal.decreases-loop-prime
-decreases-loop-prime l = 4 - l.prime
+    ((s : List ℕ) → Gathered (λ j. j ↑ prime_in (prime_at j) (symbol_in s l.x)) l.prime l.e l.initial.sums l.sums)

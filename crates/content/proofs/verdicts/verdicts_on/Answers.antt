@@ -1,26 +1,27 @@
--- `content::verdicts::verdicts_on` meets its contract. The invariant: the flags are the verdicts on the terms passed.
+-- `content::verdicts::verdicts_on` meets its contract: what `all` answers of the symbols is the verdict on the terms.
 use native.Mathlib.Omega.{arith}
-use mathlib.Core.Path.{◌≡◌, refl}
-use Rattle.label.specs.Reading.{every}
-use Rattle.content.specs.Views.{terms_in}
-use Rattle.content.proofs.TermLaws.{verdicts_more}
+use mathlib.Core.Path.{◌∙◌}
+use Rattle.std.proofs.Common.{rules, tests}
+use Rattle.std.proofs.lemmas.Iterator.{YieldsList-from_slice}
+use Rattle.std.proofs.lemmas.Iterator.Search.{all_from_yields_List}
+use lib.ListN.{take}
+use Rattle.label.specs.Reading.{is_known, is_lawful, is_recommended}
+use Rattle.symbols.specs.Views.{symbol_in}
+use Rattle.content.proofs.TermLaws.{every_noted}
 use Rattle.content.proofs.verdicts.verdicts_on.Goals as goal
 
-pub loop-i-init : goal.loop-i-init
-unfolding every terms_in
-loop-i-init c = (omega arith, λ s t. record { known_is = refl; lawful_is = refl; recommended_is = refl })
-
-pub loop-i-preserved : goal.loop-i-preserved
-loop-i-preserved c = (
-  omega arith,
-  λ s t.
-      verdicts_more s t _ c.loop-i.i c.symbol_at-x.result (c.symbol_at-x.ensures s) (c.loop-i.invariant.1 s t) c.both-all_known.ensures
-      c.both-all_lawful.ensures (c.is_lawful.ensures s)
-      c.both-all_recommended.ensures (c.is_recommended.ensures s),
-)
-
 pub returns : goal.returns
-returns c =
-    λ s t.
-    let e : c.loop-i.i ≡ c.args.count = omega arith in
-    rw (← e) (c.loop-i.invariant.1 s t)
+unfolding is_known symbol_in
+returns c = λ s t.
+    let noted = take c.args.count c.args.symbols.now in
+    record {
+      known_is =
+          all_from_yields_List (λ y. is_known (symbol_in s y)) _ _ c.all.result c.all.ensures.ran (YieldsList-from_slice noted cc) (λ x b q k. search (rules, tests))
+          ∙ every_noted is_known s t c.args.symbols.now c.args.count (omega arith);
+      lawful_is =
+          all_from_yields_List (λ y. is_lawful c.args.n (symbol_in s y)) _ _ c.all-2.result c.all-2.ensures.ran (YieldsList-from_slice noted cc) (λ x b q k. search (rules, tests))
+          ∙ every_noted (is_lawful c.args.n) s t c.args.symbols.now c.args.count (omega arith);
+      recommended_is =
+          all_from_yields_List (λ y. is_recommended (symbol_in s y)) _ _ c.all-3.result c.all-3.ensures.ran (YieldsList-from_slice noted cc) (λ x b q k. search (rules, tests))
+          ∙ every_noted is_recommended s t c.args.symbols.now c.args.count (omega arith);
+    }

@@ -1,7 +1,11 @@
 -- `conversion::fraction::are_whole` meets its contract.
-use Rattle.conversion.proofs.Fractions.{all_whole_is}
+use native.Mathlib.Omega.{arith}
+use Rattle.std.proofs.lemmas.Grind.{common_steps}
+use Rattle.conversion.proofs.Fractions.{all_whole_bits}
 use Rattle.conversion.proofs.fraction.are_whole.Goals as goal
 
-pub returns : goal.returns
-returns c =
-    all_whole_is c.args.r c.requires c.is_whole.ensures c.is_whole-2.ensures c.is_whole-3.ensures c.is_whole-4.ensures c.both.ensures c.both-2.ensures c.both-3.ensures
+pub returns-then-is_whole-3 : goal.returns-then-is_whole-3
+returns-then-is_whole-3 c = grind (arith, common_steps, all_whole_bits c.args.r c.requires)
+
+pub returns-else-is_whole-3 : goal.returns-else-is_whole-3
+returns-else-is_whole-3 c = grind (arith, common_steps, all_whole_bits c.args.r c.requires)

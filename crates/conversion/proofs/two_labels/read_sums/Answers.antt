@@ -1,6 +1,6 @@
 -- `conversion::two_labels::read_sums` meets its contract.
-use Rattle.conversion.proofs.Summing.{read_summed}
+use Rattle.conversion.proofs.Summing.{accepted_summed}
 use Rattle.conversion.proofs.two_labels.read_sums.Goals as goal
 
 pub returns : goal.returns
-returns c = read_summed c.read.ensures
+returns c = accepted_summed c.in_ok-a.ensures

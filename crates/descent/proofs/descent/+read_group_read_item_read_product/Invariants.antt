@@ -1,6 +1,5 @@
 -- The cycle of the descent ends, since the bytes left in the label fall. Each turn of a product's loop is a law of `StepLaws`.
 use Rattle.std.proofs.Common.{ℕ, ◌+◌, ◌-◌, ◌*◌, List, length}
-use Rattle.descent.specs.Terms.{lent}
 use Rattle.descent.proofs.StepLaws.{Ongoing}
 use Rattle.descent.proofs.descent.+read_group_read_item_read_product.Given as goal
 
@@ -17,9 +16,9 @@ decreases-read_item l = left l.s.now l.at + 1
 abbrev pub decreases-read_product : goal.decreases-read_product
 decreases-read_product l = left l.s.now l.at + 2
 
-abbrev pub invariant-read_product-loop-r : goal.invariant-read_product-loop-r
-invariant-read_product-loop-r l =
-    Ongoing l.r l.sense.turned l.s l.at (lent l.initial.places l.initial.exponents) l.from l.down (lent l.places l.exponents)
+abbrev pub invariant-read_product-loop-end : goal.invariant-read_product-loop-end
+invariant-read_product-loop-end l =
+    Ongoing l.r l.sense.turned l.s l.at l.initial.terms l.from l.down l.terms
 
-abbrev pub decreases-read_product-loop-r : goal.decreases-read_product-loop-r
-decreases-read_product-loop-r l = length l.s - l.from
+abbrev pub decreases-read_product-loop-end : goal.decreases-read_product-loop-end
+decreases-read_product-loop-end l = length l.s - l.from

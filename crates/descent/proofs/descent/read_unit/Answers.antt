@@ -1,16 +1,11 @@
-use native.Mathlib.Omega.{arith}
 use Rattle.descent.proofs.StepLaws.{unit_unspelled, unit_unpowered, unit_read}
 use Rattle.descent.proofs.descent.read_unit.Goals as goal
 
-pub returns-then-not-w : goal.returns-then-not-w
-returns-then-not-w c = search (unit_unspelled, arith)
+pub returns-in_err-end : goal.returns-in_err-end
+returns-in_err-end c = rw c.from_residual.ensures (unit_unspelled c.in_err-end.ensures)
 
-pub returns-then-not-p : goal.returns-then-not-p
-returns-then-not-p c = search (unit_unpowered, arith)
-
-pub overflow_add-result : goal.overflow_add-result
-overflow_add-result c = omega (arith, c.power_after-p.ensures.within, c.well_formed.1.0)
+pub returns-in_err-p : goal.returns-in_err-p
+returns-in_err-p c = rw c.from_residual-in_err-p.ensures (unit_unpowered c.in_ok-end.ensures c.in_err-p.ensures)
 
 pub returns : goal.returns
-returns c =
-    unit_read c.spelling_at-w.ensures c.if-not-w.false c.power_after-p.ensures {m = c.exponent_of-e.result} c.requires c.if-not-p.false c.exponent_of-e.ensures.exponent_value c.keep.ensures
+returns c = unit_read c.in_ok-end.ensures c.in_ok-p.ensures c.requires c.exponent_of.ensures c.keep.ensures

@@ -1,15 +1,10 @@
-use native.Mathlib.Omega.{arith}
-use Rattle.label.specs.Bytes.{slash}
-use Rattle.tokens.proofs.Readers.{tested_room}
+use Rattle.std.proofs.Common.{arith}
+use Rattle.std.proofs.lemmas.Bool.Decides.{nat_tests}
 use Rattle.descent.proofs.JointSteps.{slash_leads, no_slash_leads}
 use Rattle.descent.proofs.joint.leading_slash.Goals as goal
 
-pub padded-requires : goal.padded-requires
-padded-requires c =
-    tested_room c.args.s.now c.padded-p.result slash c.args.r.each c.byte_at.ensures c.both.ensures c.if-both.true (omega arith)
-
-pub returns-then-both : goal.returns-then-both
-returns-then-both c = search (slash_leads, arith)
+pub returns-then-r : goal.returns-then-r
+returns-then-r c = slash_leads c.padded-p.ensures c.byte_at.ensures (grind (arith, nat_tests)) c.padded.ensures
 
 pub returns : goal.returns
-returns c = search (no_slash_leads, arith)
+returns c = no_slash_leads c.padded-p.ensures c.byte_at.ensures (grind (arith, nat_tests))

@@ -1,9 +1,8 @@
-use native.Mathlib.Omega.{arith}
-use Rattle.descent.proofs.LabelSteps.{text_left, text_ends}
+use Rattle.descent.proofs.LabelSteps.{nothing_ends, text_ends}
 use Rattle.descent.proofs.whole_label.ended.Goals as goal
 
-pub returns-then-p-s : goal.returns-then-p-s
-returns-then-p-s c = search (text_left, arith)
+pub returns-in_err-end : goal.returns-in_err-end
+returns-in_err-end c = rw (c.in_err-end.was, c.from_residual.ensures) nothing_ends
 
 pub returns : goal.returns
-returns c = search (text_ends, arith)
+returns c = rw (c.in_ok-end.was, c.then_some.ensures) (text_ends c.in_ok-end.end)

@@ -1,24 +1,23 @@
--- `notations::rows::notation_named` meets its contract: each turn of the loop is one of `NameLaws`.
+-- `notations::rows::notation_named` meets its contract: the place of a name tells its number.
+use mathlib.Core.Path.{refl}
+use borrow.Author.Rules.{rules}
+use borrow.Author.Tests.{tests}
+use Rattle.std.proofs.lemmas.Iterator.{YieldsList-from_slice}
+use Rattle.std.proofs.lemmas.Iterator.Search.{position_from_yields_List}
+use Rattle.std.specs.Str.{bytes_eq}
+use Rattle.label.specs.Bytes.{bytes}
 use Rattle.label.specs.Rows.{named}
-use Rattle.notations.proofs.NameLaws.{search_start, search_all, search_hit, search_miss, too_long}
+use Rattle.notations.proofs.NameLaws.{rows, by_place}
 use Rattle.notations.proofs.rows.notation_named.Goals as goal
 
-pub returns-then-size-gt-MOST_LETTERS : goal.returns-then-size-gt-MOST_LETTERS
-returns-then-size-gt-MOST_LETTERS c = too_long _ c.if-size-gt-MOST_LETTERS.true
-
-pub loop-i-init : goal.loop-i-init
-loop-i-init c = search_start _ _ c.type_inv.name c.key-number.ensures
-
-pub returns-then-compare : goal.returns-then-compare
-unfolding named
-returns-then-compare c =
-    search_hit c.loop-i.invariant c.loop-i-test.true (rw (c.notation_sizes-sizes.ensures, c.notation_keys-keys.ensures) at c.compare.ensures.equal_value) c.if-compare.true
-
-pub loop-i-preserved : goal.loop-i-preserved
-unfolding named
-loop-i-preserved c =
-    search_miss c.loop-i.invariant c.loop-i-test.true (rw (c.notation_sizes-sizes.ensures, c.notation_keys-keys.ensures) at c.compare.ensures.equal_value) c.if-compare.false
+pub returns-in_err-place : goal.returns-in_err-place
+unfolding named rows bytes
+returns-in_err-place c =
+    let e = position_from_yields_List (λ x. bytes_eq c.args.name.now x.now) _ _ _ c.position.ensures.ran (YieldsList-from_slice _ c.iter.ensures.rest) (λ x b q k. search (rules, tests)) in
+    rw c.from_residual.ensures ((by_place c.iter.ensures.rest refl e).missing c.in_err-place.was)
 
 pub returns : goal.returns
-unfolding named
-returns c = search_all c.loop-i.invariant c.loop-i-test.false
+unfolding named rows bytes
+returns c =
+    let e = position_from_yields_List (λ x. bytes_eq c.args.name.now x.now) _ _ _ c.position.ensures.ran (YieldsList-from_slice _ c.iter.ensures.rest) (λ x b q k. search (rules, tests)) in
+    (by_place c.iter.ensures.rest refl e).found c.in_ok-place.was

@@ -1,26 +1,12 @@
 -- `reading::read::read` meets its contract: each way is one of `Answering`.
-use native.Mathlib.Omega.{arith}
-use Rattle.reading.proofs.Answering.{accepted₁, read₁, read₂, read_small, read_nameable, read_few}
-use borrow.Author.Rules.{rules}
+use Rattle.reading.proofs.Answering.{accepted₁, read_refused, read_accepted}
+use Rattle.std.proofs.lemmas.Result.{err_from_is_err_and}
 use Rattle.reading.proofs.read.read.Goals as goal
 
-pub returns-then-not-c : goal.returns-then-not-c
-returns-then-not-c c = search (read₁, arith)
-
-pub overflow_cast-n : goal.overflow_cast-n
-overflow_cast-n c = search (read_small, arith)
-
-pub all_named-requires : goal.all_named-requires
-all_named-requires c = search (read_nameable, arith)
-
-pub add_up-requires : goal.add_up-requires
-add_up-requires c = (search (read_few, arith), search rules)
-
-pub overflow_cast-n-2 : goal.overflow_cast-n-2
-overflow_cast-n-2 c = search (read_small, arith)
-
-pub verdicts_on-v-requires : goal.verdicts_on-v-requires
-verdicts_on-v-requires c = search (read_few, arith)
+pub returns-in_err-k : goal.returns-in_err-k
+returns-in_err-k c =
+    let p = err_from_is_err_and c.from_residual.result c.from_residual.ensures.1 in
+    rw (p.1, p.2) (read_refused c.in_err-k.ensures)
 
 pub returns : goal.returns
-returns c = search (read₂, accepted₁, arith)
+returns c = read_accepted c.in_ok-k.ensures (accepted₁ c.all_named.ensures c.verdicts_on-verdicts.ensures c.add_up.ensures)

@@ -1,25 +1,15 @@
 -- `record::fields::term_fields` meets its contract.
-use borrow.Author.Rules.{rules}
+use Rattle.descent.specs.Terms.{term_at}
 use native.Mathlib.Omega.{arith}
-use mathlib.Core.Path.{refl}
-use lib.IntN.{pos}
-use lib.ListN.{get_or}
+use borrow.Author.Rules.{rules}
 use mir.Syntax.{w32}
 use mir.Val.{SFits}
-use Rattle.content.proofs.Integers.{widened}
+use Rattle.std.proofs.lemmas.List.{get_or_default}
 use Rattle.record.proofs.Fielding.{term_is}
 use Rattle.record.proofs.fields.term_fields.Goals as goal
 
-pub overflow_cast-result-3 : goal.overflow_cast-result-3
-overflow_cast-result-3 c =
-    let exponent_fits : SFits w32 (get_or c.args.exponents.now c.args.i (pos 0)) = record { sfits = search rules } in
-    widened exponent_fits
-
-pub returns : goal.returns
-returns c =
-    let exponent_fits : SFits w32 (get_or c.args.exponents.now c.args.i (pos 0)) = record { sfits = search rules } in
-    record {
-      result_len = refl;
-      by_index = term_is c.args.names.now c.requires.1 (omega arith) (omega arith) (omega arith) (omega arith)
-          c.number_at-prefix.ensures c.number_at-unit.ensures c.number_at-first.ensures c.number_at-last.ensures exponent_fits;
-    }
+pub returns-clause-by_index : goal.returns-clause-by_index
+returns-clause-by_index c =
+    let exponent_fits : SFits w32 (term_at c.args.content.now.terms c.args.i).exponent.0 = record { sfits = search rules } in
+    term_is c.requires.1 _ _ (get_or_default c.args.content.now.symbols c.args.i _ _ (omega arith)) c.code.ensures c.code-2.ensures c.row.ensures
+    c.from.ensures exponent_fits c.letters-letters.ensures

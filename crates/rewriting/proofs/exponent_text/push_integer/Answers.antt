@@ -5,4 +5,4 @@ use Rattle.rewriting.proofs.exponent_text.push_integer.Goals as goal
 
 pub returns : goal.returns
 unfolding figures
-returns c = writes_both c.push_sign-digits.ensures c.push_figures.ensures
+returns g c = writes_both c.push_sign.ensures c.push_figures.ensures

@@ -1,22 +1,33 @@
 -- `rewriting::exponent_text::push_power` meets its contract: a fraction, no form, 1, or a whole number.
+use mathlib.Core.Path.{◌≡◌}
+use mathlib.Core.Bool.{true, false}
+use lib.Dec.{eqb}
+use borrow.Author.Tests.{eq-eqb, ne_eqb, not-true, not-false}
+use Rattle.label.specs.Choice.{pick}
 use Rattle.notations.specs.Styles.{style_in}
-use mathlib.Core.Path.{sym, ◌∙◌}
-use Rattle.rewriting.proofs.TextLaws.{writes_nothing, writes_none, writes_as}
+use Rattle.rewriting.proofs.TextLaws.{writes_nothing, has_form}
 use Rattle.rewriting.proofs.PowerLaws.{power_fraction, power_none, power_one, power_whole}
 use Rattle.rewriting.proofs.exponent_text.push_power.Goals as goal
+use Rattle.rewriting.proofs.exponent_text.push_power.Goals.{then-power-via-then-power, then-power-via-else-power+then-power-ne1-2}
 
-pub returns-then-style : goal.returns-then-style
+pub returns-then-not-style : goal.returns-then-not-style
 unfolding style_in
-returns-then-style c = writes_as (power_fraction _ _ _ _ c.if-d-ne1.true c.if-style.true) c.push_fraction.ensures
+returns-then-not-style g c = power_none _ _ _ _ c.if-power-ne1.true (not-true _ c.if-not-style.true)
 
-pub returns-then-d-ne1 : goal.returns-then-d-ne1
+pub returns-then-power-ne1 : goal.returns-then-power-ne1
 unfolding style_in
-returns-then-d-ne1 c = writes_as (power_none _ _ _ _ c.if-d-ne1.true c.if-style.false) (writes_none c.requires)
+returns-then-power-ne1 g c = has_form (power_fraction _ _ _ _ c.if-power-ne1.true (not-false _ c.if-not-style.false)) c.push_fraction.ensures
 
-pub returns-then-is_one : goal.returns-then-is_one
-returns-then-is_one c =
-    writes_as (power_one _ _ _ _ c.if-d-ne1.false (sym c.is_one.ensures ∙ c.if-is_one.true)) (writes_nothing c.requires)
+pub returns-then-power : goal.returns-then-power
+returns-then-power g c =
+    let one = c.if-power-ne1.false in
+    let y = style_in c.args.style in
+    elim c.then-power.branch [
+      | then-power-via-then-power w ↦ let e : pick c.args.power.negative false (eqb c.args.power.n 1) ≡ false = rw w.if-power.true in has_form (power_whole y _ _ _ one e) c.push_whole.ensures
+      | then-power-via-else-power+then-power-ne1-2 w ↦ let e : pick c.args.power.negative false (eqb c.args.power.n 1) ≡ false = rw w.if-power.false (ne_eqb _ 1 w.if-power-ne1-2.true) in has_form (power_whole y _ _ _ one e) c.push_whole.ensures
+    ]
 
-pub returns : goal.returns
-returns c =
-    writes_as (power_whole _ _ _ _ c.if-d-ne1.false (sym c.is_one.ensures ∙ c.if-is_one.false)) c.push_whole.ensures
+pub returns-else-power-ne1-2 : goal.returns-else-power-ne1-2
+returns-else-power-ne1-2 g c =
+    let e : pick c.args.power.negative false (eqb c.args.power.n 1) ≡ true = rw c.if-power.false (eq-eqb _ 1 c.if-power-ne1-2.false) in
+    has_form (power_one (style_in c.args.style) _ _ _ c.if-power-ne1.false e) writes_nothing

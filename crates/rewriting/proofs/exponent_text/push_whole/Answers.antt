@@ -1,17 +1,20 @@
 -- `rewriting::exponent_text::push_whole` meets its contract.
+use Rattle.label.specs.Bytes.{bytes}
 use Rattle.notations.specs.Styles.{style_in}
-use mathlib.Core.Path.{sym, ◌∙◌}
 use Rattle.rewriting.proofs.TextLaws.{writes_both}
 use Rattle.rewriting.proofs.exponent_text.push_whole.Goals as goal
+use Rattle.rewriting.proofs.exponent_text.push_whole.Goals.{else-style-via-then-style+else-power, else-style-via-else-style}
 
-pub returns-then-is_wrapped : goal.returns-then-is_wrapped
-unfolding style_in
-returns-then-is_wrapped c =
-    rw (sym c.is_wrapped.ensures ∙ c.if-is_wrapped.true)
-    (writes_both c.push_stars-first.ensures (writes_both c.push-sign.ensures (writes_both c.push_integer-close.ensures c.push.ensures)))
+pub returns-then-power : goal.returns-then-power
+unfolding style_in bytes
+returns-then-power g c =
+    rw (c.if-style.true, c.if-power.true)
+    (writes_both c.append_if.ensures (writes_both c.push.ensures (writes_both (rw c.if-power.true at c.push_integer.ensures) c.push-then-power.ensures)))
 
-pub returns : goal.returns
-unfolding style_in
-returns c =
-    rw (sym c.is_wrapped.ensures ∙ c.if-is_wrapped.false)
-    (writes_both c.push_stars-first.ensures c.push_integer.ensures)
+pub returns-else-style : goal.returns-else-style
+unfolding style_in bytes
+returns-else-style g c =
+    elim c.else-style.branch [
+      | else-style-via-then-style+else-power w ↦ rw (w.if-style.true, w.if-power.false) (writes_both c.append_if.ensures (rw w.if-power.false at c.push_integer-else-style.ensures))
+      | else-style-via-else-style w ↦ rw w.if-style.false (writes_both c.append_if.ensures c.push_integer-else-style.ensures)
+    ]

@@ -2,4 +2,4 @@ use Rattle.rewriting.proofs.figures.+push_figures.Given as goal
 
 -- the measure: how many may be written
 abbrev pub decreases-push_figures : goal.decreases-push_figures
-decreases-push_figures l = l.most
+decreases-push_figures g l = l.most

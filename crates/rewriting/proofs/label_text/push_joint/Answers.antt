@@ -7,10 +7,10 @@ use Rattle.rewriting.specs.Forms.{joint_before}
 use Rattle.rewriting.proofs.TextLaws.{writes_nothing}
 use Rattle.rewriting.proofs.label_text.push_joint.Goals as goal
 
-pub returns-then-i-eq0 : goal.returns-then-i-eq0
-unfolding joint_before
-returns-then-i-eq0 c = rw c.if-i-eq0.true (writes_nothing c.requires)
-
-pub returns : goal.returns
+pub returns-then-i-gt0 : goal.returns-then-i-gt0
 unfolding style_in joint_before
-returns c = let e : c.args.i ≡ suc (c.args.i - 1) = omega arith in rw e c.push.ensures
+returns-then-i-gt0 g c = let e : c.args.i ≡ suc (c.args.i - 1) = omega arith in rw e c.push.ensures
+
+pub returns-else-i-gt0 : goal.returns-else-i-gt0
+unfolding joint_before
+returns-else-i-gt0 g c = let e : c.args.i ≡ 0 = omega arith in rw e writes_nothing

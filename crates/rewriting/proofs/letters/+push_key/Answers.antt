@@ -1,17 +1,15 @@
 -- `rewriting::letters::push_key` meets its contract: no letter, or the last letter after the others.
-use Rattle.std.proofs.Common.{ap, List, ℕ}
-use Rattle.std.proofs.Math.Option.{some}
+use native.Mathlib.Omega.{arith}
 use Rattle.rewriting.proofs.TextLaws.{writes_nothing, writes_both, writes_as}
 use Rattle.rewriting.proofs.LetterLaws.{letters_none, letters_end, letters_more}
 use Rattle.rewriting.proofs.letters.+push_key.Goals as goal
+use Rattle.rewriting.proofs.letters.+push_key.Goals.{else-most-gt0-via-then-most-gt0+else-key-gt0, else-most-gt0-via-else-most-gt0}
 
-pub returns-then-most-eq0 : goal.returns-then-most-eq0
-returns-then-most-eq0 t c = writes_as (ap (λ (l : List ℕ). some l) (letters_none _ _ c.if-most-eq0.true)) (writes_nothing c.requires)
+pub returns-then-key-gt0 : goal.returns-then-key-gt0
+returns-then-key-gt0 g t c = writes_as (letters_more _ _ (λ e. omega arith) (λ e. omega arith)) (writes_both c.push_key.ensures c.push.ensures)
 
-pub returns-then-key-eq0 : goal.returns-then-key-eq0
-returns-then-key-eq0 t c = writes_as (ap (λ (l : List ℕ). some l) (letters_end _ _ c.if-key-eq0.true)) (writes_nothing c.requires)
-
-pub returns : goal.returns
-returns t c =
-    writes_as (ap (λ (l : List ℕ). some l) (letters_more _ _ c.if-most-eq0.false c.if-key-eq0.false))
-    (writes_both c.push_key-last.ensures c.push.ensures)
+pub returns-else-most-gt0 : goal.returns-else-most-gt0
+returns-else-most-gt0 g t c = elim c.else-most-gt0.branch [
+  | else-most-gt0-via-then-most-gt0+else-key-gt0 w ↦ writes_as (letters_end _ _ (omega arith)) writes_nothing
+  | else-most-gt0-via-else-most-gt0 w ↦ writes_as (letters_none _ _ (omega arith)) writes_nothing
+]

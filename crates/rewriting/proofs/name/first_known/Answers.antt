@@ -1,19 +1,20 @@
--- `rewriting::name::first_known` meets its contract: each turn of the loop finds a name or leaves it.
-use native.Mathlib.Omega.{arith}
-use mathlib.Core.Path.{sym, ◌∙◌}
-use Rattle.rewriting.proofs.NameTable.{look_start, look_end, look_hit, look_miss, among_this, among_later, among_none}
+-- `rewriting::name::first_known` meets its contract: the first place of a known name.
+use mathlib.Core.Path.{◌≡◌}
+use mathlib.Core.Bool.{true, false}
+use Prim.Native.Nat.{ℕ}
+use borrow.Author.Rules.{rules}
+use borrow.Author.Tests.{tests}
+use Rattle.label.specs.Notations.{member}
+use Rattle.label.specs.Writing.{name_among}
+use Rattle.rewriting.specs.Names.{entry}
+use Rattle.std.proofs.lemmas.Iterator.{first_from_Range}
+use Rattle.rewriting.proofs.NameTable.{first_place, among_this, among_later, among_none}
 use Rattle.rewriting.proofs.name.first_known.Goals as goal
 
-pub loop-i-init : goal.loop-i-init
-loop-i-init c = look_start _ _
-
-pub returns-then-is_known : goal.returns-then-is_known
-returns-then-is_known c =
-    (look_hit _ _ _ c.loop-i-test.true c.requires.1 c.loop-i.invariant (among_this _ _ _ (sym c.is_known.ensures ∙ c.if-is_known.true)), omega (arith, c.requires.1.within))
-
-pub loop-i-preserved : goal.loop-i-preserved
-loop-i-preserved c =
-    look_miss _ _ _ c.loop-i-test.true c.requires.1 c.loop-i.invariant (among_later _ _ _ (sym c.is_known.ensures ∙ c.if-is_known.false))
-
 pub returns : goal.returns
-returns c = (look_end _ _ _ (among_none _) c.loop-i-test.false c.loop-i.invariant, omega arith)
+returns c =
+    let n = c.args.n in
+    let yes = λ (i : ℕ). member n (entry i).known_in ≡ true in
+    let no = λ (i : ℕ). member n (entry i).known_in ≡ false in
+    first_place (name_among n) c.args.names c.requires yes no (λ i ys. among_this n _ ys) (λ i ys. among_later n _ ys) (among_none n) c.find.result
+    (first_from_Range _ _ _ _ yes no c.find.ensures.ran (λ x q k. search (rules, tests)) (λ x q k. search (rules, tests)))

@@ -1,20 +1,18 @@
--- `rewriting::name::own_place` meets its contract: each turn of the loop finds a name or leaves it.
-use native.Mathlib.Omega.{arith}
-use mathlib.Core.Path.{sym, ◌∙◌}
-use Rattle.rewriting.proofs.NameTable.{look_start, look_end, look_hit, look_miss, own_this, own_later, own_none}
+-- `rewriting::name::own_place` meets its contract: the first place of a name with those letters.
+use mathlib.Core.Path.{◌≡◌}
+use mathlib.Core.Bool.{true, false}
+use Prim.Native.Nat.{ℕ}
+use borrow.Author.Rules.{rules}
+use borrow.Author.Tests.{tests}
+use Rattle.rewriting.specs.Names.{entry, entry_name, is_named}
+use Rattle.std.proofs.lemmas.Iterator.{first_from_Range}
+use Rattle.rewriting.proofs.NameTable.{first_place, own_answer, own_this, own_later, own_none}
 use Rattle.rewriting.proofs.name.own_place.Goals as goal
 
-pub loop-i-init : goal.loop-i-init
-loop-i-init c = λ l o. look_start _ _
-
-pub returns-then-is_own : goal.returns-then-is_own
-returns-then-is_own c =
-    record { by_index = λ l o. look_hit _ _ _ c.loop-i-test.true c.requires.1 (c.loop-i.invariant l o) (own_this _ l _ _ (sym (c.is_own.ensures l o) ∙ c.if-is_own.true)); upper_bound = omega (arith, c.requires.1.within) }
-
-pub loop-i-preserved : goal.loop-i-preserved
-loop-i-preserved c =
-    λ l o. look_miss _ _ _ c.loop-i-test.true c.requires.1 (c.loop-i.invariant l o) (own_later _ l _ _ (sym (c.is_own.ensures l o) ∙ c.if-is_own.false))
-
-pub returns : goal.returns
-returns c =
-    record { by_index = λ l o. look_end _ _ _ (own_none _ l) c.loop-i-test.false (c.loop-i.invariant l o); upper_bound = omega arith }
+pub returns-clause-by_index : goal.returns-clause-by_index
+returns-clause-by_index c = λ l o.
+    let n = c.args.n in
+    let yes = λ (i : ℕ). is_named n l (entry_name (entry i)) ≡ true in
+    let no = λ (i : ℕ). is_named n l (entry_name (entry i)) ≡ false in
+    (first_place (own_answer n l) c.args.names c.requires yes no (λ i ys. own_this n l i ys) (λ i ys. own_later n l i ys) (own_none n l) c.find.result
+    (first_from_Range _ _ _ _ yes no c.find.ensures.ran (λ x q k. search (rules, tests)) (λ x q k. search (rules, tests)))).0

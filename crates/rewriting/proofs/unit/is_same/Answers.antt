@@ -1,23 +1,21 @@
 -- `rewriting::unit::is_same` meets its contract: prefixes, units and letters are compared in turn.
 use mathlib.Core.Path.{◌∙◌}
-use Rattle.rewriting.proofs.UnitTexts.{other_prefix, both_known, one_known, other_known, both_unknown}
+use borrow.Author.Tests.{tests}
+use borrow.Author.Rules.{rules}
+use Rattle.rewriting.proofs.UnitTexts.{other_prefix, known_first, known_second, both_known, both_unknown, same_slices}
 use Rattle.rewriting.proofs.unit.is_same.Goals as goal
 
-pub returns-then-x-y : goal.returns-then-x-y
-returns-then-x-y c = other_prefix _ _ _ _ c.if-x-y.true
+pub returns-then-ne : goal.returns-then-ne
+returns-then-ne c = other_prefix _ _ _ _ (search (rules, tests))
 
-pub returns-then-y : goal.returns-then-y
-returns-then-y c = both_known _ _ _ _ c.if-x-y.false c.if-x.true c.if-y.true
+pub returns-in-Known-Known : goal.returns-in-Known-Known
+returns-in-Known-Known c = both_known _ _ _ _ (search (rules, tests)) c.in-Known-Known.is-0 c.in-Known-Known.is-1
 
-pub returns-then-x : goal.returns-then-x
-returns-then-x c = one_known _ _ _ _ c.if-x.true c.if-y.false
+pub returns-in-Unknown-Unknown : goal.returns-in-Unknown-Unknown
+returns-in-Unknown-Unknown c = c.eq.ensures ∙ same_slices _ _ ∙ both_unknown _ _ _ _ (search (rules, tests)) c.in-Unknown-Unknown.is-0 c.in-Unknown-Unknown.is-1
 
-pub returns-then-y-2 : goal.returns-then-y-2
-returns-then-y-2 c = other_known _ _ _ _ c.if-x.false c.if-y-2.true
+pub returns-in_default : goal.returns-in_default
+returns-in_default c = known_first _ _ _ _ c.in_default.is-0 c.in_default.is-1
 
-pub same_letters-requires : goal.same_letters-requires
-same_letters-requires c =
-    record { start_le_end = (c.requires.0.forward c.if-x.false, c.requires.0.within c.if-x.false); from_le_to = (c.requires.1.forward c.if-y-2.false, c.requires.1.within c.if-y-2.false) }
-
-pub returns : goal.returns
-returns c = c.same_letters.ensures ∙ both_unknown _ _ _ _ c.if-x-y.false c.if-x.false c.if-y-2.false
+pub returns-in_default-2 : goal.returns-in_default-2
+returns-in_default-2 c = known_second _ _ _ _ c.in_default.is-0 c.in_default.is-1

@@ -1,20 +1,14 @@
--- `rewriting::unit::plain_form` meets its contract: letters, no name, or a name.
-use native.Mathlib.Omega.{arith}
-use borrow.Author.Tests.{not-true, not-false}
-use Rattle.symbols.proofs.NameLaws.{key_column_count}
+-- `rewriting::unit::plain_form` meets its contract: no name, a name, or letters.
 use Rattle.rewriting.proofs.UnitTexts.{plain_lettered, plain_unnamed, plain_named}
 use Rattle.rewriting.proofs.unit.plain_form.Goals as goal
+use Rattle.rewriting.proofs.unit.plain_form.Goals.{in-Known+in_ok-name_in-in-Known, in-Unknown}
 
-pub returns-then-not-unit : goal.returns-then-not-unit
-returns-then-not-unit c = plain_lettered c.prefix_code.ensures (not-true _ c.if-not-unit.true)
-
-pub returns-then-name-eq0 : goal.returns-then-name-eq0
-returns-then-name-eq0 c =
-    rw c.no_form.ensures (plain_unnamed _ _ _ (not-false _ c.if-not-unit.false) c.names_of.ensures c.name_in-name.ensures.by_index c.if-name-eq0.true)
-
-pub bounds-keys-name : goal.bounds-keys-name
-bounds-keys-name c = omega (arith, key_column_count c.requires.0.keys_are, c.name_in-name.ensures.upper_bound)
+pub returns-in_err-name_in-in-Known : goal.returns-in_err-name_in-in-Known
+returns-in_err-name_in-in-Known c =
+    rw c.from_residual.ensures (plain_unnamed _ _ c.in-Known.is c.names_of.ensures _ c.name_in.ensures.by_index c.in_err-name_in-in-Known.was)
 
 pub returns : goal.returns
-returns c =
-    plain_named _ _ _ (not-false _ c.if-not-unit.false) c.names_of.ensures c.name_in-name.ensures.by_index c.prefix_code.ensures c.if-name-eq0.false c.requires.0.keys_are
+returns c = elim c.match-term.branch [
+  | in-Known+in_ok-name_in-in-Known w ↦ rw (w.name-is, c.from-prefix.ensures) (plain_named _ _ w.in-Known.is w.names_of.ensures _ w.name_in.ensures.by_index _ w.in_ok-name_in-in-Known.was c.code_of.ensures w.nth_name.ensures)
+  | in-Unknown w ↦ rw (w.name-is, c.from-prefix.ensures) (plain_lettered c.code_of.ensures w.in-Unknown.is)
+]

@@ -1,6 +1,6 @@
--- `scan::run::zeros` meets its contract: the run of one byte.
-use Rattle.scan.proofs.Scanning.{run_of_one}
+-- `scan::run::zeros` meets its contract: its closure tests for the one byte.
+use Rattle.std.proofs.Common.{rules, tests}
 use Rattle.scan.proofs.run.zeros.Goals as goal
 
 pub returns : goal.returns
-returns c = run_of_one _ c.run_within.ensures
+returns c = c.run.ensures _ (λ x b e. search (rules, tests))

@@ -1,16 +1,13 @@
-use Rattle.symbols.specs.Views.{place}
-use Rattle.symbols.proofs.UnitLaws.{held, tens_placed, tens_small}
 use native.Mathlib.Omega.{arith}
+use mathlib.Core.Option.{some}
 use mathlib.Core.Path.{ap, ◌∙◌}
 use lib.IntN.{ℤ}
 use Rattle.label.specs.declared.Tens.{Tens}
+use Rattle.symbols.proofs.UnitLaws.{byte_held, held, tens_at, tens_small}
 use Rattle.symbols.proofs.properties.prefix_power.Goals as goal
 
-pub returns-then-prefix-eq0 : goal.returns-then-prefix-eq0
-unfolding place
-returns-then-prefix-eq0 c = rw c.if-prefix-eq0.true
-
-pub returns : goal.returns
-returns c =
-    ap {B = Tens} (λ (z : ℤ). record { 0 = z }) (held _ _ (c.signed_element-power.ensures ∙ tens_placed c.args.prefix c.requires c.if-prefix-eq0.false)
-    (omega (arith, tens_small (place c.args.prefix))))
+pub returns-in-Some : goal.returns-in-Some
+returns-in-Some c =
+    rw c.in-Some.is
+    (ap {B = Tens} (λ (z : ℤ). record { 0 = z }) (held _ _ (c.from.ensures ∙ byte_held c.prefix_tens.type_inv ∙ c.prefix_tens.ensures ∙ tens_at c.in-Some.place)
+    (omega (arith, tens_small (some c.in-Some.place)))))

@@ -1,24 +1,22 @@
 -- `tokens::power::bracketed_on` meets its contract: each way is one of `PowerSteps`.
 use native.Mathlib.Omega.{arith}
-use Rattle.label.specs.Bytes.{close_bracket, slash}
-use Rattle.tokens.proofs.Readers.{byte_found, found_room, byte_is, byte_not}
-use Rattle.tokens.proofs.PowerSteps.{bracketed_on₁, bracketed_on₂, bracketed_on₃}
+use Rattle.label.specs.Bytes.{close_bracket}
+use Rattle.tokens.proofs.Readers.{byte_found, byte_is}
+use Rattle.tokens.proofs.PowerSteps.{on_close, on_slash_no_digits, on_slash_digits, on_other}
 use Rattle.tokens.proofs.power.bracketed_on.Goals as goal
 
-pub returns-then-c-eq41 : goal.returns-then-c-eq41
-returns-then-c-eq41 c =
-    let byte = byte_is c.byte_at-c.ensures c.if-c-eq41.true in
-    bracketed_on₁ c.args.s.now c.args.n c.args.at (byte_found c.args.s.now c.args.at close_bracket (omega arith) byte) byte c.requires.inside
+pub returns-in-41 : goal.returns-in-41
+returns-in-41 c =
+    let close = byte_is c.byte_at.ensures c.in-41.is in
+    on_close c.args.s.now c.args.n c.args.at (byte_found c.args.s.now c.args.at close_bracket (omega arith) close) close c.requires.inside
 
-pub unsigned-d-requires : goal.unsigned-d-requires
-unsigned-d-requires c = found_room c.args.s.now c.args.at slash c.byte_at-c.ensures c.if-c-eq47.true (omega arith)
+pub returns-in_err-digits-in-47 : goal.returns-in_err-digits-in-47
+returns-in_err-digits-in-47 c =
+    rw c.from_residual.ensures (on_slash_no_digits c.args.s.now c.args.n c.args.at (byte_is c.byte_at.ensures c.in-47.is) (rw c.in_err-digits-in-47.was at c.unsigned.ensures))
 
-pub returns-then-c-eq47 : goal.returns-then-c-eq47
-returns-then-c-eq47 c =
-    bracketed_on₂ c.args.s.now c.args.n c.args.at (byte_is c.byte_at-c.ensures c.if-c-eq47.true)
-    c.unsigned-d.ensures c.closed_power.ensures
+pub returns-in_ok-digits-in-47 : goal.returns-in_ok-digits-in-47
+returns-in_ok-digits-in-47 c =
+    on_slash_digits c.args.s.now c.args.n c.args.at (byte_is c.byte_at.ensures c.in-47.is) _ c.requires.inside (rw c.in_ok-digits-in-47.was at c.unsigned.ensures) c.closed.ensures
 
-pub returns : goal.returns
-returns c =
-    let byte = c.byte_at-c.ensures in
-    bracketed_on₃ c.args.s.now c.args.n c.args.at (byte_not byte c.if-c-eq41.false) (byte_not byte c.if-c-eq47.false) c.pointed.ensures
+pub returns-in_default : goal.returns-in_default
+returns-in_default c = on_other c.args.s.now c.args.n c.args.at _ (λ e. omega arith) (λ e. omega arith) c.pointed.ensures

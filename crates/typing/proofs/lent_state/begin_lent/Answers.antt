@@ -9,5 +9,5 @@ returns-then-state-lt-STATE_SIZE c =
 
 pub returns : goal.returns
 returns c =
-    let all = begin_with_room c.args.notation c.args.state.now c.if-state-lt-STATE_SIZE.false c.fresh_state-t.result c.store_state.new.b c.fresh_state-t.ensures c.store_state.ensures in
+    let all = begin_with_room c.args.notation c.args.state.now c.if-state-lt-STATE_SIZE.false c.fresh_state.result c.store_state.new.b c.fresh_state.ensures c.store_state.ensures in
     record { value = all.0; state_after = all.1 }

@@ -18,7 +18,7 @@ store_state-requires c =
 pub returns : goal.returns
 returns c =
     let t = c.load_state-t.result in
-    let all = ends_before c.args.state.now t c.load_state-t.ensures c.args.buffer.now c.end_label-r.new.buffer c.store_state.new.b c.end_label-r.result
+    let all = ends_before c.args.state.now t c.load_state-t.ensures c.args.buffer.now _ c.store_state.new.b _
     (ended_as c.args.state.now t c.load_state-t.ensures c.has_ended.result false c.has_ended.ensures c.if-has_ended.false)
-    c.end_label-r.ensures.number_value c.end_label-r.ensures.state_value c.end_label-r.ensures.buffer_after c.store_state.ensures in
+    c.read-answer.ensures.value c.read-answer.ensures.buffer_after c.store_state.ensures in
     record { value = all.0; state_after = all.1.0; buffer_after = all.1.1 }

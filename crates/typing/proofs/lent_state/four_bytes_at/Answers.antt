@@ -1,38 +1,7 @@
--- `typing::lent_state::four_bytes_at` meets its contract: each byte is below 256, and the number is theirs.
-use Prim.Native.Nat.{◌+◌}
-use native.Mathlib.Omega.{arith}
+-- `typing::lent_state::four_bytes_at` meets its contract.
+use mathlib.Core.Path.{◌∙◌}
 use Rattle.typing.proofs.LentSteps.{four_bytes}
 use Rattle.typing.proofs.lent_state.four_bytes_at.Goals as goal
 
-pub overflow_cast-first : goal.overflow_cast-first
-overflow_cast-first c = omega (arith, c.type_inv.b c.args.at)
-
-pub overflow_cast-second : goal.overflow_cast-second
-overflow_cast-second c = omega (arith, c.type_inv.b (c.args.at + 1))
-
-pub overflow_cast-third : goal.overflow_cast-third
-overflow_cast-third c = omega (arith, c.type_inv.b (c.args.at + 2))
-
-pub overflow_cast-fourth : goal.overflow_cast-fourth
-overflow_cast-fourth c = omega (arith, c.type_inv.b (c.args.at + 3))
-
-pub overflow_mul-result : goal.overflow_mul-result
-overflow_mul-result c = omega (arith, c.type_inv.b (c.args.at + 3))
-
-pub overflow_add-result : goal.overflow_add-result
-overflow_add-result c = omega (arith, c.type_inv.b (c.args.at + 2), c.type_inv.b (c.args.at + 3))
-
-pub overflow_mul-result-2 : goal.overflow_mul-result-2
-overflow_mul-result-2 c = omega (arith, c.type_inv.b (c.args.at + 2), c.type_inv.b (c.args.at + 3))
-
-pub overflow_add-result-2 : goal.overflow_add-result-2
-overflow_add-result-2 c = omega (arith, c.type_inv.b (c.args.at + 1), c.type_inv.b (c.args.at + 2), c.type_inv.b (c.args.at + 3))
-
-pub overflow_mul-result-3 : goal.overflow_mul-result-3
-overflow_mul-result-3 c = omega (arith, c.type_inv.b (c.args.at + 1), c.type_inv.b (c.args.at + 2), c.type_inv.b (c.args.at + 3))
-
-pub overflow_add-result-3 : goal.overflow_add-result-3
-overflow_add-result-3 c = omega (arith, c.type_inv.b c.args.at, c.type_inv.b (c.args.at + 1), c.type_inv.b (c.args.at + 2), c.type_inv.b (c.args.at + 3))
-
 pub returns : goal.returns
-returns c = four_bytes c.args.b.now c.args.at c.requires
+returns c = c.from_le_bytes.ensures ∙ four_bytes c.args.b.now c.args.at c.requires

@@ -18,6 +18,6 @@ store_state-requires c =
 pub returns : goal.returns
 returns c =
     let t = c.load_state-t.result in
-    let all = sends_before c.args.state.now t c.load_state-t.ensures c.args.part.now c.store_state.new.b c.take_part-r.result
-    (ended_as c.args.state.now t c.load_state-t.ensures c.has_ended.result false c.has_ended.ensures c.if-has_ended.false) c.take_part-r.ensures c.store_state.ensures in
+    let all = sends_before c.args.state.now t c.load_state-t.ensures c.args.part.now c.store_state.new.b c.take_part.result
+    (ended_as c.args.state.now t c.load_state-t.ensures c.has_ended.result false c.has_ended.ensures c.if-has_ended.false) c.take_part.ensures c.store_state.ensures in
     record { value = all.0; state_after = all.1 }

@@ -6,8 +6,5 @@ use Rattle.words.proofs.SpeechLaws.{words_as}
 use Rattle.words.proofs.NameRows.{unit_row}
 use Rattle.words.proofs.spoken_names.say_unit.Goals as goal
 
-pub shape_of-text : goal.shape_of-text
-shape_of-text c = c.say_name.ensures.says.kept
-
 pub returns : goal.returns
-returns c = words_as (ap (λ (x : Word). x ∷ []) (unit_row _)) c.say_name.ensures
+returns g c = words_as (ap (λ (x : Word). x ∷ []) (unit_row _)) c.say_name.ensures

@@ -1,34 +1,31 @@
 -- `words::spoken_numbers::say_exponent` meets its contract: nothing, or the exponent in lowest terms.
-use mathlib.Core.Path.{sym, ap, ◌∙◌}
+use native.Mathlib.Omega.{arith}
+use mathlib.Core.Path.{ap, ◌∙◌}
 use lib.IntN.{nat_abs}
 use mir.Syntax.{w32}
 use mir.Val.{SFits}
 use mir.Facts.{to_z-of_z}
-use native.Mathlib.Omega.{arith}
-use native.Mathlib.Nat.{mul-le-mul}
+use borrow.Author.Tests.{eq-eqb, ne_eqb}
 use Rattle.label.specs.Bytes.{bytes}
-use Rattle.label.specs.Limits.{negative}
+use Rattle.rewriting.proofs.NumberLaws.{is_below}
 use Rattle.words.proofs.SpeechLaws.{no_words, more_words, words_as}
 use Rattle.words.proofs.NumberWords.{exponent_unsaid, exponent_said}
 use Rattle.words.proofs.spoken_numbers.say_exponent.Goals as goal
+use Rattle.words.proofs.spoken_numbers.say_exponent.Goals.{else-not-negative-via-then-not-negative+else-sixtieths-eq-PARTS_OF_ONE, else-not-negative-via-else-not-negative}
 
-pub returns-then-is_unity : goal.returns-then-is_unity
-returns-then-is_unity c =
-    let exponent_fits : SFits w32 c.args.exponent.0 = record { sfits = omega arith } in
-    let held = to_z-of_z exponent_fits in
-    words_as (exponent_unsaid _ (c.magnitude-sixtieths.ensures.0 ∙ ap nat_abs held) (c.is_negative-negative.ensures ∙ ap negative held) (sym c.is_unity.ensures ∙ c.if-is_unity.true)) no_words
-
-pub overflow_mul-sixtieths : goal.overflow_mul-sixtieths
-overflow_mul-sixtieths c = omega (arith, mul-le-mul c.magnitude-sixtieths.ensures.1 c.denominator-d.ensures.1)
-
-pub shape_of-text : goal.shape_of-text
-shape_of-text c =
-    c.say_over.ensures.says.kept ∙ c.say_integer-over.ensures.says.kept ∙ c.say_to_the-number.ensures.says.kept
+pub returns-then-sixtieths-eq-PARTS_OF_ONE : goal.returns-then-sixtieths-eq-PARTS_OF_ONE
+returns-then-sixtieths-eq-PARTS_OF_ONE g c =
+    let fits : SFits w32 c.args.exponent.0 = record { sfits = omega arith } in
+    let size = c.from-sixtieths.ensures ∙ c.unsigned_abs.ensures.value ∙ ap nat_abs (to_z-of_z fits) in
+    words_as (exponent_unsaid _ size (is_below fits) (rw c.if-not-negative.true (eq-eqb _ 60 c.if-sixtieths-eq-PARTS_OF_ONE.true))) no_words
 
 pub returns : goal.returns
 unfolding bytes
-returns c =
-    let exponent_fits : SFits w32 c.args.exponent.0 = record { sfits = omega arith } in
-    let held = to_z-of_z exponent_fits in
-    words_as (exponent_said _ (c.magnitude-sixtieths.ensures.0 ∙ ap nat_abs held) (c.is_negative-negative.ensures ∙ ap negative held) (sym c.is_unity.ensures ∙ c.if-is_unity.false) c.denominator-d.ensures.0)
-    (more_words c.say_to_the-number.ensures (more_words c.say_integer-over.ensures c.say_over.ensures))
+returns g c =
+    let fits : SFits w32 c.args.exponent.0 = record { sfits = omega arith } in
+    let size = c.from-sixtieths.ensures ∙ c.unsigned_abs.ensures.value ∙ ap nat_abs (to_z-of_z fits) in
+    words_as (exponent_said _ size (is_below fits) (elim c.else-not-negative.branch [
+      | else-not-negative-via-then-not-negative+else-sixtieths-eq-PARTS_OF_ONE w ↦ rw w.if-not-negative.true (ne_eqb _ 60 w.if-sixtieths-eq-PARTS_OF_ONE.false)
+      | else-not-negative-via-else-not-negative w ↦ rw w.if-not-negative.false
+    ]) c.denominator-d.ensures.0)
+    (more_words c.say_to_the.ensures (more_words c.say_integer.ensures c.say_over.ensures))

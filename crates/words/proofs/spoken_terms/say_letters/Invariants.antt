@@ -1,9 +1,7 @@
-use Prim.Native.Nat.{◌-◌}
-use Rattle.words.proofs.SpeechLaws.{LettersSoFar}
+use lib.ListN.{take}
+use Rattle.label.specs.Words.{letter_words}
+use Rattle.words.specs.Speech.{SaysWords}
 use Rattle.words.proofs.spoken_terms.say_letters.Given as goal
 
-abbrev pub invariant-loop-i : goal.invariant-loop-i
-invariant-loop-i l = LettersSoFar l.initial.text l.at l.s l.start l.end l.text l.place l.i
-
-abbrev pub decreases-loop-i : goal.decreases-loop-i
-decreases-loop-i l = l.end - l.i
+abbrev pub invariant-loop-letter : goal.invariant-loop-letter
+invariant-loop-letter g l = SaysWords g.row.N l.initial.text (letter_words (take l.letter-index l.letters)) l.text

@@ -1,8 +1,0 @@
--- `symbols::prefix_table::prefix_codes` meets its contract: the column is computed from the tables of label/specs.
-use mathlib.Core.Path.{refl}
-use Rattle.symbols.proofs.Computing.{columns_compute}
-use Rattle.symbols.proofs.prefix_table.prefix_codes.Goals as goal
-
-pub returns : goal.returns
-unfolding columns_compute
-returns c = refl

@@ -1,8 +1,0 @@
--- `symbols::size_table::unit_primes` meets its contract: the column is computed from the tables of label/specs.
-use mathlib.Core.Path.{refl}
-use Rattle.symbols.proofs.Computing.{columns_compute}
-use Rattle.symbols.proofs.size_table.unit_primes.Goals as goal
-
-pub returns : goal.returns
-unfolding columns_compute
-returns c = refl

@@ -6,7 +6,7 @@ ghost use Rattle.claims.specs.Parts.{up, down};
 
 use label::{PARTS_OF_ONE, SIXTIETHS};
 
-// `z` where it is not negative, and 0 where it is.
+// `z` where it is not negative, and 0 where it is: the library's methods, by the names that the claims have (as the next).
 pub fn above(z: i64) -> u64
     ensures { result ≡ up z }
 {

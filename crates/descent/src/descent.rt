@@ -22,7 +22,7 @@ pub fn read_unit(r: Rules, s: &[u8], at: usize, turned: bool, terms: &mut Terms)
     Some(p.next)
 }
 
-// Whether the units of a product are turned over, and whether the product may end with a slash and one unit or group.
+// Under what sign a product is read: whether its units are turned over, and whether it may end with a slash and one unit or group.
 #[derive(Clone, Copy)]
 pub struct Sense {
     pub turned: bool,

@@ -13,7 +13,7 @@ pub struct JointAt {
     pub next: usize,
 }
 
-// The sign `turned`, turned over by a slash or not.
+// The sign `turned`, turned over by a slash or not, by the name that label/specs has for it.
 pub fn turned_by(slash: bool, turned: bool) -> bool
     ensures { result ≡ turned_by slash turned }
 {

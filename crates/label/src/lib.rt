@@ -27,7 +27,7 @@ pub struct Exponent(pub i32);
 #[derive(Clone, Copy)]
 pub struct Tens(pub i32);
 
-// The rules by which a notation reads its labels.
+// The rules by which a notation reads its labels: flags, since specs/Rows.antt says of each notation which of them it has.
 #[derive(Clone, Copy)]
 pub struct Rules {
     // Spellings: a percent sign; letters in quotes.

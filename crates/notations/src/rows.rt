@@ -11,7 +11,7 @@ ghost use Rattle.notations.specs.Styles.{JointOf, StyleOf};
 use label::Rules;
 
 // The notations by their numbers. They are no enum: `is_notation` here, and `symbol`, `is_lawful` and `verdicts_on` of other crates, promise
-// something for every number.
+// something for every number, and go on with it to `rules` and `style_of`.
 const FITS: u8 = 1;
 
 const OGIP: u8 = 2;
@@ -25,7 +25,7 @@ const STARLINK: u8 = 5;
 // Their names, in the order of their numbers.
 static NAMES: [&[u8]; 5] = [b"fits", b"ogip", b"cds", b"vou", b"starlink"];
 
-// How a notation writes.
+// How a notation writes: flags, since label/specs/Rows.antt says of each notation which of them it has.
 #[derive(Clone, Copy)]
 pub struct Style {
     // The number of the notation.

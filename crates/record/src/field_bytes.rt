@@ -16,7 +16,7 @@ pub fn put_all(b: &mut [u8], at: usize, numbers: &[i64])
     }
 }
 
-// Writes zeros from a place up to another.
+// Writes zeros from a place up to another: `fill`, with the value that the record's proof goes on from.
 pub fn clear(b: &mut [u8], from: usize, to: usize)
     requires { (from ≤ to) × (to ≤ length b.old) }
     ensures { take to b.new ≡ take from b.old ++ replicate (to - from) 0 }

@@ -17,6 +17,7 @@ pub const HEAD_FIELDS: usize = 6;
 
 pub const TERM_FIELDS: usize = 7;
 
+// The library's conversion, by the name that specs/Record.antt has.
 fn flag(b: bool) -> i64
     ensures { result ≡ spec.flag b }
 {

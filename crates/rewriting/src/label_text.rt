@@ -64,7 +64,7 @@ pub fn push_label<const N: usize>(
     }
     let style = target.style;
     push_factor(text, style, target.k)?;
-    // By index: a term and its symbol stand at one place of two arrays, as `descent` knows no symbols.
+    // By index: it says what joins a term to those before it, beside the places of the term and of its symbol.
     for i in 0..count {
         let term = content.terms.items[i];
         let form = form_of(style, s, source_term(s, term, content.symbols[i]))?;

@@ -4,7 +4,7 @@ ghost use Rattle.rewriting.specs.Letters.{letters_of};
 
 use crate::text::Text;
 
-// Writes the letters of a key, `most` at most.
+// Writes the letters of a key, `most` at most. Unlike the digits of `push_figures` there may be none; each contract names its own definition.
 pub fn push_key<const N: usize>(text: &mut Text<N>, most: u8, key: u64)
     ensures { Writes N text.old (letters_of most key) text.new }
 {

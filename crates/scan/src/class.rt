@@ -1,4 +1,4 @@
-// Classes of bytes.
+// Classes of bytes. Each function is a call of the library whose contract gives its value in the words of label/specs.
 ghost use Rattle.std.specs.Prelude.{◌≡◌, get_or};
 ghost use Rattle.label.specs.Parse.{sign};
 ghost use Rattle.label.specs.Bytes.{within, letter, digit, nonzero};

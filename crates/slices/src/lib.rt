@@ -15,7 +15,7 @@ pub fn copy(source: &[u8], target: &mut [u8]) -> usize
     size
 }
 
-// The place of the first `byte` from `start` on, or `end` where there is none before it.
+// The place of the first `byte` from `start` on, or `end` where there is none before it: there a caller cuts either way.
 pub fn find(s: &[u8], start: usize, end: usize, byte: u8) -> usize
     requires start_within { start ≤ end }
     requires end_within { end ≤ length s.now }

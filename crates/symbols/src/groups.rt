@@ -3,7 +3,7 @@ ghost use Rattle.std.specs.Prelude.{◌≡◌};
 ghost use Rattle.symbols.specs.Columns.{name_keys};
 ghost use Rattle.symbols.specs.Groups.{first_in_group};
 
-// The place of the first name of a group, or how many names there are. It is a table: a search asks it once.
+// The place of the first name of a group, or how many names there are, after which nothing is left to search. It is a table: a search asks it once.
 #[tactic(auto, using(crate::proofs::GroupLaws::start, crate::proofs::GroupLaws::no_start), unfolding(crate::proofs::GroupLaws::start_computes))]
 pub fn first_in_group(group: u64) -> u8
     ensures { result ≡ first_in_group group 0 name_keys }

@@ -52,7 +52,7 @@ pub fn compare(size: usize, number: u64, symbol_size: usize, symbol_number: u64)
             pairs: 0,
         };
     }
-    // The number of pairs is part of the answer, so the loop counts.
+    // The turn's number is part of both answers, which a search would leave to be made after it.
     for pairs in 0..size {
         let after = size - pairs - 1;
         if letter(number, after) != letter(symbol_number, after) {

@@ -38,6 +38,7 @@ pub fn unit_named(n: u8, spelling: &[u8]) -> Option<u8>
     }
     let number = key(spelling);
     let first = usize::from(first_in_group(number % GROUPS));
+    // A `for`, as the search of the prefixes below.
     for i in first..NAMES {
         let name = nth_name(i);
         if is_name(n, size, number, name) {
@@ -70,6 +71,7 @@ pub fn prefix_named(spelling: &[u8]) -> Option<u8>
         return None;
     }
     let number = key(spelling);
+    // Tried as `find` over the range: that what is found first is the definition's did not prove.
     for i in 0..PREFIXES {
         if is_prefix(size, number, prefix_code(i)) {
             return Some(i as u8);

@@ -16,7 +16,7 @@ use crate::unit_table::{UNITS, unit_prefixed, unit_recommended};
 use crate::{SymbolAt, UnitAt};
 use label::Tens;
 
-// The row of a unit, or the place after the last row where it is unknown.
+// The row of a unit, or the place after the last row where it is unknown: there each column has its default, so that one match serves all columns.
 fn row(unit: UnitAt) -> usize
     ensures value { result ≡ row_of unit }
     ensures upper_bound { result < 256 }

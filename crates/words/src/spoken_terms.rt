@@ -52,9 +52,9 @@ pub fn say_label<const N: usize>(text: &mut Text<N>, k: Tens, s: &[u8], content:
     ensures { SaysWords N text.old (factor_words k ++ terms_words (source_terms s.now content.now)) text.new }
 {
     say_factor(text, k);
-    // By index: a term and its symbol stand at one place of two arrays, as `descent` knows no symbols.
-    for i in 0..content.terms.count {
-        say_symbol(text, s, content.symbols[i]);
-        say_exponent(text, content.terms.items[i].exponent);
+    let terms = &content.terms.items[..content.terms.count];
+    for (term, symbol) in terms.iter().zip(&content.symbols) {
+        say_symbol(text, s, *symbol);
+        say_exponent(text, term.exponent);
     }
 }

@@ -1,5 +1,5 @@
 -- What the functions over the limits find.
-use Rattle.std.specs.Prelude.{ℕ, ◌≤◌, ◌≡◌, Bool, List, map, length, Result, Ok, Err, OnOk}
+use Rattle.std.specs.Prelude.{ℕ, ◌≤◌, ◌≡◌, List, map, length, Result, Ok, Err, OnOk}
 use Rattle.label.specs.declared.Refusal.{Refusal}
 use Rattle.label.specs.declared.Tens.{Tens}
 use Rattle.label.specs.declared.WrittenFactor.{WrittenFactor}
@@ -22,8 +22,8 @@ abbrev pub checked_by : Result Tens Refusal → List Placed → spec.Checked
 checked_by (Ok k) us = accept (record { k = k; units = us })
 checked_by (Err e) us = refuse (number_of e)
 
--- a label with the factor w and n terms that are in the grammar; m says whether a power breaks its bound
-pub record ChecksValues (s : List ℕ) (w : WrittenFactor) (n : ℕ) (m : Bool) (r : Result Tens Refusal) : Type 0 where
+-- a label with the factor w and n terms that are in the grammar; m is 0 unless a power breaks its bound
+pub record ChecksValues (s : List ℕ) (w : WrittenFactor) (n m : ℕ) (r : Result Tens Refusal) : Type 0 where
   pub is : (t : Terms) (ps : List Part) → count t ≡ n → broken t ≡ m → HoldsUnits s t ps
       → check_values s (valued (factor_in s w) ps) ≡ checked_by r (units_in s t)
   pub few : OnOk r (n ≤ most_terms)

@@ -11,20 +11,20 @@ use notations::rows::{is_notation, rules};
 use values::brackets::deepest;
 use values::factors::factor;
 
-// Refusals 5 to 7 of a label that is in the grammar: its factor, how many terms it has, and whether an exponent breaks its bound. It reads
-// nothing else of the terms.
+// Refusals 5 to 7 of a label that is in the grammar: its factor, how many terms it has, and a mark, 0 unless an exponent breaks its bound. It reads
+// nothing else of the terms. The mark is a number and no bool: it promises something for each.
 #[tactic(auto, using(crate::proofs::Checking::as_many), unfolding(label::specs::Reading::check_values, label::specs::Reading::check_counts, label::specs::Reading::unless, label::specs::Split::valued, label::specs::Split::valued_with))]
 pub fn check_values(
     s: &[u8],
     written: WrittenFactor,
     count: usize,
-    broken: bool,
+    broken: usize,
 ) -> Result<Tens, Refusal>
     requires { FactorInside s.now written }
     ensures { ChecksValues s.now written count broken result }
 {
     let k = factor(s, written).ok_or(Refusal::OutOfBounds)?;
-    if broken {
+    if broken != 0 {
         return Err(Refusal::OutOfBounds);
     }
     if deepest(s) > MOST_BRACKETS {

@@ -22,6 +22,7 @@ use Rattle.descent.specs.declared.terms.Terms.{Terms}
 use Rattle.descent.specs.Terms.{term_at}
 use Rattle.content.specs.Views.{noted_symbol, symbol_at, term_in, terms_in, scale_in}
 use Rattle.content.specs.Sums.{SumsWithin, Summable, Added, zero_sums}
+use Rattle.content.specs.Totals.{SameExponents}
 use Rattle.content.proofs.Integers.{wide_fits}
 use Rattle.content.proofs.Listing.{listed}
 use Rattle.content.proofs.Naming.{terms_more}
@@ -51,6 +52,24 @@ one_total {f} {xs} {ys} {zs} {y} {e} s t x i told same v a = record {
       ∙ +ℤ_assoc (get_or xs b (pos 0)) (total (f b) (terms_in s t x i)).0 z
       ∙ ap (λ (w : ℤ). get_or xs b (pos 0) +ℤ w) (sym (total_more (f b) (terms_in s t x i) (term_in s t x i)))
       ∙ ap (λ (us : List spec.Term). get_or xs b (pos 0) +ℤ (total (f b) us).0) (sym (terms_more s t x i));
+}
+
+-- a total reads the exponents and no place of a spelling
+same_total : (f : Symbol → ℤ) (s : List ℕ) (t u : Terms) (x : List SymbolAt) (n : ℕ) → SameExponents t u n
+    → (total f (terms_in s t x n)).0 ≡ (total f (terms_in s u x n)).0
+unfolding terms_in
+same_total f s t u x zero h = refl
+same_total f s t u x (suc n) h =
+    total_more f (terms_in s t x n) (term_in s t x n)
+    ∙ ap (λ (z : ℤ). z +ℤ f (symbol_at s x n) *ℤ (term_at t n).exponent.0) (same_total f s t u x n (record { same = λ i l. h.same i (omega arith) }))
+    ∙ ap (λ (e : Exponent). (total f (terms_in s u x n)).0 +ℤ f (symbol_at s x n) *ℤ e.0) (sym (h.same n (omega arith)))
+    ∙ sym (total_more f (terms_in s u x n) (term_in s u x n))
+
+pub same_totals : {f : ℕ → Symbol → ℤ} {xs ys : List ℤ} (s : List ℕ) (t u : Terms) (x : List SymbolAt) (n : ℕ) → SameExponents t u n
+    → Totals f (terms_in s t x n) xs ys → Totals f (terms_in s u x n) xs ys
+same_totals {f} {xs} {ys} s t u x n h v = record {
+  room = v.room;
+  sums = λ b l. v.sums b l ∙ ap (λ (z : ℤ). get_or xs b (pos 0) +ℤ z) (same_total (f b) s t u x n h);
 }
 
 -- WHERE THE SUMS START

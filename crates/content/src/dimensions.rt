@@ -4,9 +4,10 @@ ghost use Rattle.label.specs.Reading.{exponent, base_in, dimensions_of};
 ghost use Rattle.label.specs.Limits.{most_terms};
 ghost use Rattle.label.specs.Units.{base_count};
 ghost use Rattle.symbols.specs.Views.{symbol_in};
-ghost use Rattle.descent.specs.Terms.{count};
+ghost use Rattle.descent.specs.declared.terms.Terms.{Terms};
 ghost use Rattle.content.specs.Views.{terms_in};
 ghost use Rattle.content.specs.Sums.{Summable, Added, zero_sums};
+ghost use Rattle.content.specs.Totals.{SameExponents};
 
 use crate::sums::{BASES, add_power};
 use descent::terms::Terms;
@@ -30,13 +31,18 @@ fn add_bases(x: SymbolAt, e: Exponent, sums: &mut [i64; BASES])
     }
 }
 
-// The exponent of each base, by its number, in the terms, in sums that start at 0.
-pub fn dimensions(terms: &Terms, symbols: &[SymbolAt; MOST_TERMS], sums: &mut [i64; BASES])
-    requires { (count terms.now ≤ most_terms) × (sums.old ≡ zero_sums base_count) }
-    ensures { (s : List ℕ) → map exponent sums.new
-        ≡ dimensions_of (terms_in s terms.now symbols.now (count terms.now)) }
+// The exponent of each base, by its number, in the first `count` terms, in sums that start at 0.
+pub fn dimensions(
+    count: usize,
+    terms: &Terms,
+    symbols: &[SymbolAt; MOST_TERMS],
+    sums: &mut [i64; BASES],
+)
+    requires { (count ≤ most_terms) × (sums.old ≡ zero_sums base_count) }
+    ensures { (s : List ℕ) (u : Terms) → SameExponents terms.now u count → map exponent sums.new
+        ≡ dimensions_of (terms_in s u symbols.now count) }
 {
-    for (term, symbol) in terms.items[..terms.count].iter().zip(symbols) {
+    for (term, symbol) in terms.items[..count].iter().zip(symbols) {
         add_bases(*symbol, term.exponent, sums);
     }
 }

@@ -4,9 +4,10 @@ ghost use Rattle.label.specs.Reading.{prime_in, scale_of};
 ghost use Rattle.label.specs.Limits.{most_terms};
 ghost use Rattle.symbols.specs.Slots.{prime_at};
 ghost use Rattle.symbols.specs.Views.{symbol_in};
-ghost use Rattle.descent.specs.Terms.{count};
+ghost use Rattle.descent.specs.declared.terms.Terms.{Terms};
 ghost use Rattle.content.specs.Views.{terms_in, scale_in};
 ghost use Rattle.content.specs.Sums.{Summable, Added, zero_sums, prime_count};
+ghost use Rattle.content.specs.Totals.{SameExponents};
 
 use crate::sums::add_power;
 use descent::terms::Terms;
@@ -37,16 +38,22 @@ fn in_sixtieths(k: Tens) -> i64
     i64::from(k.0) * SIXTIETHS
 }
 
-// The exponent of each prime in the factor, ten to the power `k`, and the terms, in sums that start at 0.
-pub fn scale(k: Tens, terms: &Terms, symbols: &[SymbolAt; MOST_TERMS], sums: &mut [i64; PRIMES])
-    requires { (count terms.now ≤ most_terms) × (sums.old ≡ zero_sums prime_count) }
-    ensures { (length sums.new ≡ prime_count) × ((s : List ℕ) → scale_in sums.new
-        ≡ scale_of k (terms_in s terms.now symbols.now (count terms.now))) }
+// The exponent of each prime in the factor, ten to the power `k`, and the first `count` terms, in sums that start at 0.
+pub fn scale(
+    k: Tens,
+    count: usize,
+    terms: &Terms,
+    symbols: &[SymbolAt; MOST_TERMS],
+    sums: &mut [i64; PRIMES],
+)
+    requires { (count ≤ most_terms) × (sums.old ≡ zero_sums prime_count) }
+    ensures { (length sums.new ≡ prime_count) × ((s : List ℕ) (u : Terms) → SameExponents terms.now u count → scale_in sums.new
+        ≡ scale_of k (terms_in s u symbols.now count)) }
 {
     let tens = in_sixtieths(k);
     sums[0] = tens;
     sums[2] = tens;
-    for (term, symbol) in terms.items[..terms.count].iter().zip(symbols) {
+    for (term, symbol) in terms.items[..count].iter().zip(symbols) {
         add_primes(*symbol, term.exponent, sums);
     }
 }

@@ -1,7 +1,6 @@
 // The sums of a reading.
 ghost use Rattle.std.specs.Prelude.{◌≤◌};
 ghost use Rattle.label.specs.Limits.{most_terms};
-ghost use Rattle.descent.specs.Terms.{count};
 ghost use Rattle.content.specs.Sums.{NoSums};
 ghost use Rattle.content.specs.Totals.{AddedUp};
 
@@ -12,11 +11,17 @@ use descent::terms::Terms;
 use label::{MOST_TERMS, Tens};
 use symbols::SymbolAt;
 
-// Adds up the factor, ten to the power `k`, and the terms, in sums that start at 0.
-pub fn add_up(k: Tens, terms: &Terms, symbols: &[SymbolAt; MOST_TERMS], sums: &mut Sums)
-    requires { (count terms.now ≤ most_terms) × NoSums sums.old }
-    ensures { AddedUp k terms.now symbols.now sums.new }
+// Adds up the factor, ten to the power `k`, and the first `count` terms, in sums that start at 0.
+pub fn add_up(
+    k: Tens,
+    count: usize,
+    terms: &Terms,
+    symbols: &[SymbolAt; MOST_TERMS],
+    sums: &mut Sums,
+)
+    requires { (count ≤ most_terms) × NoSums sums.old }
+    ensures { AddedUp k terms.now symbols.now count sums.new }
 {
-    dimensions(terms, symbols, &mut sums.bases);
-    scale(k, terms, symbols, &mut sums.primes);
+    dimensions(count, terms, symbols, &mut sums.bases);
+    scale(k, count, terms, symbols, &mut sums.primes);
 }

@@ -8,7 +8,8 @@ use lib.Dec.{eqb}
 use lib.ListN.{length, drop, get_or, length-drop}
 use borrow.Author.Tests.{ne_eqb}
 use Rattle.std.specs.Bool.{then_some}
-use Rattle.std.specs.Prelude.{Option, Some, None, is_some, unwrap_or}
+use Rattle.std.specs.Prelude.{Option, Some, None, Result, is_some, unwrap_or}
+use Rattle.std.specs.Result.{result_ok}
 use Rattle.label.specs.declared.Rules.{Rules}
 use Rattle.label.specs.Choice.{pick}
 use Rattle.label.specs.declared.Exponent.{Exponent}
@@ -88,8 +89,8 @@ module _ {r : Rules} {b : Bool} {s : List ℕ} {at : ℕ} {t : Terms} where
     unfolding unit then mapped
     unit_unpowered q = record { reads = record { is = λ k h. rw (v.is, q) } }
 
-    pub unit_read : {p : At WrittenPower} {x : Option Exponent} {u : Terms} → ReadsPower (exponent r (drop z s)) s z (Some p) → Ready s at t
-        → told x ≡ exponent_of b (written_in s p.value) → KeepsTerm t at z x u → ReadsUnit r b s at t u (Some p.next)
+    pub unit_read : {p : At WrittenPower} {x : Result Exponent Exponent} {u : Terms} → ReadsPower (exponent r (drop z s)) s z (Some p) → Ready s at t
+        → told (result_ok x) ≡ exponent_of b (written_in s p.value) → KeepsTerm t at z x u → ReadsUnit r b s at t u (Some p.next)
     unfolding unit then mapped
     unit_read {p} {x} q g m y =
         let far = v.ahead in

@@ -3,10 +3,10 @@ use Prim.Native.Nat.{ℕ, ◌≤◌, ◌<◌, ◌+◌, ◌-◌}
 use native.Mathlib.Omega.{arith}
 use native.Mathlib.Numerals.{add-one}
 use mathlib.Core.Path.{◌≡◌, refl, sym, ap, ◌∙◌}
-use mathlib.Core.Bool.{Bool, false}
 use mathlib.Core.List.{List, [], ◌∷◌, ◌++◌, map, map-append}
 use mathlib.Core.Option.{Option, none, some}
-use Rattle.std.specs.Prelude.{Option as Maybe, Some, None}
+use Rattle.std.specs.Prelude.{Result, Ok, Err}
+use Rattle.std.specs.Result.{result_ok}
 use lib.IntN.{pos}
 use lib.ListN.{length, length-append}
 use lib.Seq.{take-suc}
@@ -16,7 +16,6 @@ use Rattle.label.specs.Limits.{exponent_of, most_terms}
 use Rattle.label.specs.Options.{told}
 use Rattle.label.specs.Ranges.{between}
 use Rattle.label.specs.Split.{Placed, valued_unit, valued_units}
-use Rattle.label.proofs.Basics.{false_true}
 use Rattle.descent.specs.declared.terms.Term.{Term}
 use Rattle.descent.specs.declared.terms.Terms.{Terms}
 use Rattle.descent.specs.Terms.{count, broken, NoTerms, term, term_at, terms, mark, kept_exponent, KeepsTerm, placed_in, missing, InLabel, AllIn, HoldsUnits}
@@ -51,21 +50,21 @@ units_append (p ∷ ps) qs = ap (valued_unit p (exponent_of p.turned p.power)) (
     go (some e) (some us) (some vs) = refl
 
 -- one unit whose exponent is told
-unit_of : List ℕ → Term → Maybe Exponent → Option (List Placed)
-unit_of s x (Some e) = some (placed_in s x ∷ [])
-unit_of s x None = none
+unit_of : List ℕ → Term → Result Exponent Exponent → Option (List Placed)
+unit_of s x (Ok e) = some (placed_in s x ∷ [])
+unit_of s x (Err e) = none
 
 module _ (s : List ℕ) (a z : ℕ) (p : Part) (spelled : p.spelling ≡ between s a z) (left : p.left ≡ length s - a) where
-  one_unit : (o : Maybe Exponent) → told o ≡ exponent_of p.turned p.power → valued_units (p ∷ []) ≡ unit_of s (term a z (kept_exponent o)) o
+  one_unit : (o : Result Exponent Exponent) → told (result_ok o) ≡ exponent_of p.turned p.power → valued_units (p ∷ []) ≡ unit_of s (term a z (kept_exponent o)) o
   unfolding valued_units valued_unit unit_of
-  one_unit (Some e) q = rw (← q, spelled, left)
-  one_unit None q = rw (← q)
+  one_unit (Ok e) q = rw (← q, spelled, left)
+  one_unit (Err e) q = rw (← q)
 
 all_in_more : {s : List ℕ} {xs : List Term} {x : Term} → AllIn s xs → InLabel s x → AllIn s (xs ++ (x ∷ []))
 all_in_more AllIn.none i = AllIn.more i AllIn.none
 all_in_more (AllIn.more j js) i = AllIn.more j (all_in_more js i)
 
-module _ (s : List ℕ) {t u : Terms} {a z : ℕ} (o : Maybe Exponent) (p : Part) (q : told o ≡ exponent_of p.turned p.power)
+module _ (s : List ℕ) {t u : Terms} {a z : ℕ} (o : Result Exponent Exponent) (p : Part) (q : told (result_ok o) ≡ exponent_of p.turned p.power)
     (spelled : p.spelling ≡ between s a z) (left : p.left ≡ length s - a) (w : KeepsTerm t a z o u) (i : InLabel s (term a z (kept_exponent o))) where
   units_more : (ps : List Part) → valued_units (ps ++ (p ∷ [])) ≡ both_units (valued_units ps) (unit_of s (term a z (kept_exponent o)) o)
   units_more ps = units_append ps (p ∷ []) ∙ ap (both_units (valued_units ps)) (one_unit s a z p spelled left o q)
@@ -83,16 +82,16 @@ module _ (s : List ℕ) {t u : Terms} {a z : ℕ} (o : Maybe Exponent) (p : Part
     inside = λ l. rw (terms_more ps h.counted l) (all_in_more (h.inside (omega (arith, length-append ps (p ∷ [])))) i);
   }
     where
-      flag : (y : Option (List Placed)) (m : Maybe Exponent) (x : Exponent) → mark m (missing y) ≡ missing (both_units y (unit_of s (term a z x) m))
-      flag none (Some e) x = refl
-      flag none None x = refl
-      flag (some us) (Some e) x = refl
-      flag (some us) None x = refl
+      flag : (y : Option (List Placed)) (m : Result Exponent Exponent) (x : Exponent) → mark m (missing y) ≡ missing (both_units y (unit_of s (term a z x) m))
+      flag none (Ok e) x = refl
+      flag none (Err e) x = refl
+      flag (some us) (Ok e) x = refl
+      flag (some us) (Err e) x = refl
 
-      keeps : length (ps ++ (p ∷ [])) ≤ most_terms → broken u ≡ false → (n : Bool) (m : Maybe Exponent) → broken t ≡ n → o ≡ m
+      keeps : length (ps ++ (p ∷ [])) ≤ most_terms → broken u ≡ 0 → (n : ℕ) (m : Result Exponent Exponent) → broken t ≡ n → o ≡ m
           → both_units (valued_units ps) (unit_of s (term a z (kept_exponent o)) o) ≡ some (map (placed_in s) (terms u (length (ps ++ (p ∷ [])))))
-      keeps l e n None y v = absurd (false_true (sym e ∙ rw v at w.marks))
-      keeps l e n (Some x) y v =
+      keeps l e n (Err x) y v = absurd (omega (arith, e, rw v at w.marks))
+      keeps l e n (Ok x) y v =
           let few : length ps < most_terms = omega (arith, length-append ps (p ∷ [])) in
           rw (
             h.kept (omega arith) (sym (rw v at w.marks) ∙ e),

@@ -1,6 +1,5 @@
 -- The lent terms, and the units of a label that they represent.
-use Rattle.std.specs.Prelude.{ℕ, ◌≤◌, ◌<◌, ◌-◌, ◌+◌, ◌≡◌, Bool, true, false, List, [], ◌∷◌, ◌++◌, map, pos, length, get_or, take, Some, None, unwrap_or}
-use Rattle.std.specs.Prelude.{Option as Maybe}
+use Rattle.std.specs.Prelude.{ℕ, ◌≤◌, ◌<◌, ◌-◌, ◌+◌, ◌≡◌, List, [], ◌∷◌, ◌++◌, map, pos, length, get_or, take, Result, Ok, Err}
 use Rattle.std.proofs.Math.Option.{Option, none as nothing, some}
 use Rattle.label.specs.declared.Exponent.{Exponent}
 use Rattle.label.specs.Lexical.{Part}
@@ -15,13 +14,13 @@ use Rattle.descent.specs.declared.terms.Terms.{Terms}
 abbrev pub count : Terms → ℕ
 count t = t.count
 
-abbrev pub broken : Terms → Bool
+abbrev pub broken : Terms → ℕ
 broken t = t.broken
 
 -- no term yet
 pub record NoTerms (t : Terms) : Type 0 where
   pub counts : count t ≡ 0
-  pub unbroken : broken t ≡ false
+  pub unbroken : broken t ≡ 0
 
 abbrev pub term : ℕ → ℕ → Exponent → Term
 term a z x = record { start = a; end = z; exponent = x }
@@ -36,17 +35,18 @@ terms t n = take n t.items
 
 -- ONE TERM MORE
 
--- whether an exponent is missing, of this term or of one before
-abbrev pub mark : Maybe Exponent → Bool → Bool
-mark (Some x) m = m
-mark None m = true
+-- the mark m, or 1 where the exponent of this term breaks its bound
+abbrev pub mark : Result Exponent Exponent → ℕ → ℕ
+mark (Ok x) m = m
+mark (Err x) m = 1
 
--- the exponent that is kept: 0 where there is none
-abbrev pub kept_exponent : Maybe Exponent → Exponent
-kept_exponent o = unwrap_or o (record { 0 = pos 0 })
+-- the exponent that is kept, whether it breaks its bound or not
+abbrev pub kept_exponent : Result Exponent Exponent → Exponent
+kept_exponent (Ok x) = x
+kept_exponent (Err x) = x
 
--- the term from a up to z, whose exponent is none where it breaks its bound, is one more
-pub record KeepsTerm (t : Terms) (a z : ℕ) (o : Maybe Exponent) (u : Terms) : Type 0 where
+-- the term from a up to z, with an exponent that breaks its bound where it is an error, is one more
+pub record KeepsTerm (t : Terms) (a z : ℕ) (o : Result Exponent Exponent) (u : Terms) : Type 0 where
   pub counted : count u ≡ count t + 1
   pub marks : broken u ≡ mark o (broken t)
   pub adds : count t < most_terms → terms u (count t + 1) ≡ terms t (count t) ++ (term a z (kept_exponent o) ∷ [])
@@ -57,10 +57,10 @@ pub record KeepsTerm (t : Terms) (a z : ℕ) (o : Maybe Exponent) (u : Terms) : 
 abbrev pub placed_in : List ℕ → Term → Placed
 placed_in s x = record { spelling = between s x.start x.end; exponent = x.exponent; left = length s - x.start }
 
--- whether there is no value
-abbrev pub missing : {A : Type 0} → Option A → Bool
-missing nothing = true
-missing (some a) = false
+-- 1 where there is no value
+abbrev pub missing : {A : Type 0} → Option A → ℕ
+missing nothing = 1
+missing (some a) = 0
 
 -- a term's spelling is in the label s
 pub record InLabel (s : List ℕ) (x : Term) : Type 0 where
@@ -75,5 +75,5 @@ pub data AllIn (s : List ℕ) : List Term → Type 0 where
 pub record HoldsUnits (s : List ℕ) (t : Terms) (ps : List Part) : Type 0 where
   pub counted : count t ≡ length ps
   pub marks : broken t ≡ missing (valued_units ps)
-  pub kept : length ps ≤ most_terms → broken t ≡ false → valued_units ps ≡ some (map (placed_in s) (terms t (length ps)))
+  pub kept : length ps ≤ most_terms → broken t ≡ 0 → valued_units ps ≡ some (map (placed_in s) (terms t (length ps)))
   pub inside : length ps ≤ most_terms → AllIn s (terms t (length ps))

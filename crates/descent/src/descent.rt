@@ -5,7 +5,7 @@ ghost use Rattle.descent.specs.Steps.{Ready, kind, Stepped, Grouped, ReadsUnit};
 
 use crate::joint::{join_at, last_slash, leading_slash, turned_by};
 use crate::terms::Terms;
-use label::Rules;
+use label::{Exponent, Rules};
 use scan::class::byte_at;
 use scan::spelling::spelling_at;
 use tokens::power::{closes, power_after};
@@ -18,7 +18,8 @@ pub fn read_unit(r: Rules, s: &[u8], at: usize, turned: bool, terms: &mut Terms)
 {
     let end = spelling_at(r, s, at)?;
     let p = power_after(r, s, end)?;
-    terms.keep(at, end, exponent_of(s, turned, p.value));
+    let exponent = exponent_of(s, turned, p.value).ok_or(Exponent(0));
+    terms.keep(at, end, exponent);
     Some(p.next)
 }
 

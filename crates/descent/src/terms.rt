@@ -12,13 +12,13 @@ pub struct Term {
     pub exponent: Exponent,
 }
 
-// The first MOST_TERMS terms, how many there are in all, and whether an exponent of one breaks its bound. The memory is fixed, and a term that
+// The first MOST_TERMS terms, how many there are in all, and a mark, 1 where an exponent of one breaks its bound. The memory is fixed, and a term that
 // is not kept still counts and marks: so the count and the mark are beside the terms.
 #[derive(Drop)]
 pub struct Terms {
     pub items: [Term; MOST_TERMS],
     pub count: usize,
-    pub broken: bool,
+    pub broken: usize,
 }
 
 impl Terms {
@@ -34,23 +34,29 @@ impl Terms {
         Terms {
             items: [item; MOST_TERMS],
             count: 0,
-            broken: false,
+            broken: 0,
         }
     }
 
-    // One term more. Its exponent is none where it breaks its bound; then 0 is kept.
-    pub fn keep(&mut self, start: usize, end: usize, exponent: Option<Exponent>)
+    // One term more. Its exponent is an error where it breaks its bound, and is kept all the same.
+    pub fn keep(&mut self, start: usize, end: usize, exponent: Result<Exponent, Exponent>)
         requires { count self.old + 1 < 2 ^ 64 }
         ensures { KeepsTerm self.old start end exponent self.new }
     {
+        if exponent.is_err() {
+            self.broken = 1;
+        }
+        let exponent = match exponent {
+            Ok(x) => x,
+            Err(x) => x,
+        };
         if self.count < MOST_TERMS {
             self.items[self.count] = Term {
                 start,
                 end,
-                exponent: exponent.unwrap_or(Exponent(0)),
+                exponent,
             };
         }
         self.count += 1;
-        self.broken |= exponent.is_none();
     }
 }

@@ -79,5 +79,5 @@ pub extern "C" fn thalinguze_end(state: &mut [u8], buffer: &mut [u8]) -> u32
     ensures state_after { state.new ≡ lent_after_end state.old }
     ensures buffer_after { buffer.new ≡ buffer_after (end_reading (lent_state state.old)) buffer.old }
 {
-    number_of_answer(end_lent(state, buffer))
+    end_lent(state, buffer)
 }

@@ -7,7 +7,7 @@ ghost use Rattle.lines.specs.Feeding.{kept_bytes, Keeps, Steps, Feeds, Finishes}
 use crate::line::{MOST_ANSWER, MOST_LINE, answer_line, place_of};
 
 // How many bytes are kept of an unfinished line: a line with so many is malformed.
-const MOST_KEPT: usize = MOST_LINE + 1;
+pub const MOST_KEPT: usize = MOST_LINE + 1;
 
 // The most bytes of an answer and its newline.
 const MOST_WRITTEN: usize = MOST_ANSWER + 1;

@@ -23,7 +23,7 @@ const VOUNITS: u8 = 4;
 const STARLINK: u8 = 5;
 
 // Their names, in the order of their numbers.
-static NAMES: [&[u8]; 5] = [b"fits", b"ogip", b"cds", b"vou", b"starlink"];
+static NOTATION_NAMES: [&[u8]; 5] = [b"fits", b"ogip", b"cds", b"vou", b"starlink"];
 
 // How a notation writes: flags, since label/specs/Rows.antt says of each notation which of them it has.
 #[derive(Clone, Copy)]
@@ -206,6 +206,6 @@ pub fn style_of(n: u8) -> Style
 pub fn notation_named(name: &[u8]) -> Option<u32>
     ensures { told result ≡ number_told (notation_named name.now) }
 {
-    let place = NAMES.iter().position(|known| name == *known)?;
+    let place = NOTATION_NAMES.iter().position(|known| name == *known)?;
     Some(place as u32 + 1)
 }

@@ -37,10 +37,10 @@ pub record AcceptedAnswer (n : ℕ) (s : List ℕ) (k : Tens) (c : Content) (v :
 
 pub accepted₁ : {n : ℕ} {s : List ℕ} {k : Tens} {c : Content} {v : Verdicts} → AllNamed n s c.terms c.symbols
     → ((s : List ℕ) (t : Terms) → VerdictsOn n (terms_in s t c.symbols (count c.terms)) v)
-    → AddedUp k c.terms c.symbols c.sums → AcceptedAnswer n s k c v
+    → AddedUp k c.terms c.symbols (count c.terms) c.sums → AcceptedAnswer n s k c v
 unfolding reading_in reading_of
 accepted₁ {n} {s} {k} {c} w v a = record {
-  is = rw ((v s c.terms).known_is, (v s c.terms).lawful_is, (v s c.terms).recommended_is, a.dimensions s, a.scale s, w.is);
+  is = rw ((v s c.terms).known_is, (v s c.terms).lawful_is, (v s c.terms).recommended_is, a.dimensions s c.terms (record { same = λ i h. refl }), a.scale s c.terms (record { same = λ i h. refl }), w.is);
   primes = a.primes;
   named = w;
 }

@@ -46,7 +46,8 @@ pub fn read(n: u32, s: &[u8], content: &mut Content) -> Result<Answer, Refusal>
 {
     let k = check(n, s, &mut content.terms)?;
     all_named(n as u8, s, &content.terms, &mut content.symbols);
-    add_up(k, &content.terms, &content.symbols, &mut content.sums);
-    let verdicts = verdicts_on(n as u8, content.terms.count, &content.symbols);
+    let terms = &content.terms;
+    add_up(k, terms.count, terms, &content.symbols, &mut content.sums);
+    let verdicts = verdicts_on(n as u8, terms.count, &content.symbols);
     Ok(Answer { k, verdicts })
 }

@@ -20,7 +20,7 @@ use Rattle.reading.specs.declared.read.Content.{Content}
 use Rattle.reading.specs.Views.{reading_in}
 use Rattle.reading.specs.Answers.{AcceptedReading}
 use Rattle.reading.proofs.Answering.{refusal_some, accepted_number}
-use Rattle.record.specs.Record.{record_of, written_over, buffer_after}
+use Rattle.record.specs.Record.{numbered, record_of, written_over, buffer_after}
 use Rattle.record.specs.Recordable.{AllNoted, Recordable}
 
 -- a refusal changes no byte
@@ -28,11 +28,16 @@ pub refused : (n : ℕ) (s : List ℕ) (e : Refusal) (b : List ℕ) → number_o
 unfolding buffer_after
 refused n s e b h = rw (← h, ne_eqb (number_of e) 0 (λ z. absurd (omega (arith, refusal_some e))))
 
+-- the number of an accepted reading is 0
+zero_numbered : (s : List ℕ) (c : Content) (a : Answer) → numbered 0 (reading_in s c a) ≡ reading_in s c a
+unfolding reading_in
+zero_numbered s c a = refl
+
 -- an accepted reading writes its record
 pub accepted : {n : ℕ} {s : List ℕ} {c : Content} {a : Answer} → AcceptedReading n s c a → (b : List ℕ) {d : List ℕ}
-    → ((s : List ℕ) → AllNoted s c (count c.terms) → d ≡ written_over (record_of (reading_in s c a)) b) → d ≡ buffer_after (reading n s) b
+    → ((s : List ℕ) → AllNoted s c (count c.terms) → d ≡ written_over (record_of (numbered 0 (reading_in s c a))) b) → d ≡ buffer_after (reading n s) b
 unfolding buffer_after
-accepted {s = s} w b q = q s (record { noted = w.noted }) ∙ rw (w.is, accepted_number w)
+accepted {s = s} {c = c} {a = a} w b q = q s (record { noted = w.noted }) ∙ rw (zero_numbered s c a, w.is, accepted_number w)
 
 -- the letters of an unknown unit go up to the end of its term, which is in the label
 letters_upto : (x : List SymbolAt) (i : ℕ) (u : UnitAt) (start : ℕ) {end : ℕ} → unit_in x i ≡ u → BoundedUnit start end u → end ≤ most_bytes → letters_end x i ≤ most_bytes

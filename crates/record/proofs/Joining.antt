@@ -21,7 +21,7 @@ use Rattle.reading.specs.Views.{reading_in}
 use Rattle.reading.specs.Answers.{LettersNoted}
 use Rattle.record.specs.Recordable.{AllNoted}
 use Rattle.record.specs.Record.{field_size, fields_in_head, fields_in_term, head_size, term_place, dimensions_place, scale_place, record_size}
-use Rattle.record.specs.Record.{complement, digits, eight, encoded, term_fields, terms_fields, empty_fields, sixtieths_of, scale_fields, head_of, head_fields, fields, record_of}
+use Rattle.record.specs.Record.{complement, digits, eight, encoded, term_fields, terms_fields, empty_fields, sixtieths_of, scale_fields, head_of, numbered, head_fields, fields, record_of}
 
 pub encoded_join : (xs ys : List ℤ) → encoded (xs ++ ys) ≡ encoded xs ++ encoded ys
 unfolding encoded
@@ -131,8 +131,8 @@ same_scale (a ∷ b ∷ c ∷ []) h = absurd (omega arith)
 same_scale (a ∷ b ∷ c ∷ d ∷ e ∷ es) h = absurd (omega arith)
 
 -- the numbers of a reading, from its parts
-pub fields_are : (s : List ℕ) (c : Content) (a : Answer) {h : List ℤ} → length c.sums.primes ≡ prime_count
-    → h ≡ head_of 0 a.k a.verdicts.known a.verdicts.lawful a.verdicts.recommended (count c.terms)
-    → encoded (h ++ (terms_fields (terms_in s c.terms c.symbols (count c.terms)) ++ (empty_fields (most_terms - count c.terms) ++ (c.sums.bases ++ c.sums.primes)))) ≡ record_of (reading_in s c a)
+pub fields_are : (s : List ℕ) (number : ℕ) (c : Content) (a : Answer) {h : List ℤ} → length c.sums.primes ≡ prime_count
+    → h ≡ head_of number a.k a.verdicts.known a.verdicts.lawful a.verdicts.recommended (count c.terms)
+    → encoded (h ++ (terms_fields (terms_in s c.terms c.symbols (count c.terms)) ++ (empty_fields (most_terms - count c.terms) ++ (c.sums.bases ++ c.sums.primes)))) ≡ record_of (numbered number (reading_in s c a))
 unfolding reading_in head_fields fields record_of
-fields_are s c a e q = rw (q, terms_length s c.terms c.symbols (count c.terms), same_sixtieths c.sums.bases, same_scale c.sums.primes e)
+fields_are s number c a e q = rw (q, terms_length s c.terms c.symbols (count c.terms), same_sixtieths c.sums.bases, same_scale c.sums.primes e)

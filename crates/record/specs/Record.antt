@@ -116,6 +116,19 @@ fields r =
 unfoldable pub record_of : Reading → List ℕ
 record_of r = encoded (fields r)
 
+-- the same with another number
+abbrev pub numbered : ℕ → Reading → Reading
+numbered n r = record {
+  number = n;
+  k = r.k;
+  terms = r.terms;
+  known = r.known;
+  lawful = r.lawful;
+  recommended = r.recommended;
+  dimensions = r.dimensions;
+  scale = r.scale;
+}
+
 -- what is claimed of a record: two accepted readings of one label that have the same record are the same
 abbrev pub SameRecordSameReading : Type 0
 SameRecordSameReading =

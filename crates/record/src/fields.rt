@@ -35,7 +35,7 @@ fn code(place: Option<u8>) -> i64
 }
 
 // The row of a unit, if it is known.
-fn row(unit: UnitAt) -> Option<u8>
+fn known_row(unit: UnitAt) -> Option<u8>
     ensures { (s : List ℕ) (p : Place ℕ) → spec.code (told result) ≡ spec.unit_code (unit_with s p unit) }
 {
     match unit {
@@ -45,7 +45,7 @@ fn row(unit: UnitAt) -> Option<u8>
 }
 
 // Where the letters of a unit are: those of a known one, from 0 up to 0.
-fn letters(unit: UnitAt) -> Span
+fn letter_span(unit: UnitAt) -> Span
     ensures { (result.start ≡ first_letter unit) × (result.end ≡ last_letter unit) }
 {
     match unit {
@@ -63,10 +63,10 @@ pub fn term_fields(content: &Content, i: usize) -> [i64; TERM_FIELDS]
 {
     let term = content.terms.items[i];
     let symbol = content.symbols[i];
-    let letters = letters(symbol.unit);
+    let letters = letter_span(symbol.unit);
     [
         code(symbol.prefix),
-        code(row(symbol.unit)),
+        code(known_row(symbol.unit)),
         i64::from(term.exponent.0),
         term.start as i64,
         (term.end - term.start) as i64,
@@ -75,15 +75,22 @@ pub fn term_fields(content: &Content, i: usize) -> [i64; TERM_FIELDS]
     ]
 }
 
-// The numbers before the terms, of an accepted reading: the first is 0.
-pub fn head_fields(a: Answer, count: usize) -> [i64; HEAD_FIELDS]
+// The numbers before the terms: the first is 0 in an accepted reading.
+pub fn head_fields(number: u8, a: Answer, count: usize) -> [i64; HEAD_FIELDS]
     requires { count ≤ most_terms }
-    ensures { result ≡ spec.head_of 0 a.k a.verdicts.known a.verdicts.lawful a.verdicts.recommended count }
+    ensures { result ≡ spec.head_of number a.k a.verdicts.known a.verdicts.lawful a.verdicts.recommended count }
 {
     let k = a.k;
     let verdicts = a.verdicts;
     let known = flag(verdicts.known);
     let lawful = flag(verdicts.lawful);
     let recommended = flag(verdicts.recommended);
-    [0, k.0 as i64, known, lawful, recommended, count as i64]
+    [
+        number as i64,
+        k.0 as i64,
+        known,
+        lawful,
+        recommended,
+        count as i64,
+    ]
 }

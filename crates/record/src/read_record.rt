@@ -16,6 +16,6 @@ pub fn read_record(notation: u32, label: &[u8], buffer: &mut [u8]) -> Result<(),
 {
     let mut content = Content::none();
     let a = read(notation, label, &mut content)?;
-    write_record(buffer, a, &content);
+    write_record(buffer, 0, a, &content);
     Ok(())
 }

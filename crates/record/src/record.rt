@@ -3,7 +3,7 @@ ghost use Rattle.std.specs.Prelude.{ℕ, ◌+◌, ◌*◌, ◌-◌, ◌≤◌, �
 ghost use Rattle.descent.specs.Terms.{count};
 ghost use Rattle.content.specs.Views.{terms_in};
 ghost use Rattle.reading.specs.Views.{reading_in};
-ghost use Rattle.record.specs.Record.{encoded, terms_fields, record_of, head_size, term_place, dimensions_place, record_size};
+ghost use Rattle.record.specs.Record.{encoded, terms_fields, numbered, record_of, head_size, term_place, dimensions_place, record_size};
 ghost use Rattle.record.specs.Recordable.{AllNoted, Recordable};
 
 use crate::field_bytes::{FIELD_SIZE, clear, put_all};
@@ -38,14 +38,14 @@ fn put_terms(b: &mut [u8], content: &Content)
     }
 }
 
-// Writes the record of an accepted reading: its answer and its content, as reading::read::read leaves it.
-pub fn put_record(b: &mut [u8], a: Answer, content: &Content)
+// Writes the record of a reading: its number, 0 where it is accepted, its answer and its content, as reading::read::read leaves it.
+pub fn put_record(b: &mut [u8], number: u8, a: Answer, content: &Content)
     requires { (length b.old ≡ record_size) × Recordable content.now }
     ensures { (s : List ℕ) → AllNoted s content.now (count content.now.terms)
-        → b.new ≡ record_of (reading_in s content.now a) }
+        → b.new ≡ record_of (numbered number (reading_in s content.now a)) }
 {
     let count = content.terms.count;
-    let head = head_fields(a, count);
+    let head = head_fields(number, a, count);
     put_all(b, 0, &head);
     put_terms(b, content);
     clear(b, HEAD_SIZE + TERM_SIZE * count, DIMENSIONS_PLACE);

@@ -4,7 +4,7 @@ use lib.Seq.{take_all}
 use native.Mathlib.Omega.{arith}
 use mathlib.Core.Path.{◌≡◌, refl, sym, ap, ◌∙◌}
 use mathlib.Core.Bool.{Bool, true, false, ◌&&◌}
-use mathlib.Core.List.{List, [], ◌∷◌, ◌++◌}
+use mathlib.Core.List.{List, [], ◌∷◌, ◌++◌, append-nil}
 use mathlib.Core.Option.{Option as Maybe, none, some}
 use lib.Pointwise.{pointwise}
 use Rattle.std.specs.Prelude.{Option, Some, None}
@@ -32,7 +32,7 @@ use Rattle.symbols.specs.declared.UnitAt.{UnitAt}
 use Rattle.symbols.specs.declared.UnitAt.TheVariants as unit
 use Rattle.symbols.specs.Views.{span_letters, unit_with, symbol_in}
 use Rattle.rewriting.specs.declared.form.NameForm.{NameForm}
-use Rattle.rewriting.specs.declared.form.NameForm.TheVariants.{Known, Plain, Quoted}
+use Rattle.rewriting.specs.declared.form.NameForm.TheVariants.{Plain, Quoted}
 use Rattle.rewriting.specs.declared.form.UnitForm.{UnitForm}
 use Rattle.rewriting.specs.declared.name.NameRange.{NameRange}
 use Rattle.rewriting.specs.declared.unit.SourceTerm.{SourceTerm}
@@ -154,11 +154,15 @@ module _ (y : Style) (m : ℕ) (own s : List ℕ) (x : SymbolAt) where
 
 -- THE FORM WITHOUT QUOTES
 
+keyless : length (letters_of 8 0) ≡ 0
+unfolding letters_of
+keyless = refl
+
 -- the letters of an unknown unit
 pub plain_lettered : {m : ℕ} {r : SourceTerm} {l : Span} {code : ℕ} → PrefixCode r.unit.prefix code → r.unit.unit ≡ unit.Unknown l
-    → PlainOf m r (Some (record { prefix = code % 65536; name = Plain l }))
-unfolding written_form form_text plain_text both_texts
-plain_lettered w q = record { text = λ own o s. rw (q, w.letters); name = rw q refl; prefix = w.letters }
+    → PlainOf m r (Some (record { prefix = code % 65536; name = Plain 0 l }))
+unfolding written_form form_text plain_text letters_of both_texts
+plain_lettered w q = record { text = λ own o s. rw (q, w.letters); name = rw q (record { keyless = refl; letters = refl }); prefix = w.letters }
 
 -- a known unit and the name that it takes
 module _ (m : ℕ) (r : SourceTerm) {x : NameRange} {u : ℕ} (q : r.unit.unit ≡ unit.Known u) (n : NamesOf u x) (name : Option ℕ)
@@ -171,21 +175,23 @@ module _ (m : ℕ) (r : SourceTerm) {x : NameRange} {u : ℕ} (q : r.unit.unit �
   plain_unnamed z = record { text = λ own o s. rw (q, takes own o, z); name = tt; prefix = tt }
 
   pub plain_named : (i : ℕ) → name ≡ Some i → {code : ℕ} {y : entry.Name} → PrefixCode r.unit.prefix code → NameAt i y
-      → PlainOf m r (Some (record { prefix = code % 65536; name = Known y.key }))
+      → PlainOf m r (Some (record { prefix = code % 65536; name = Plain y.key (record { start = 0; end = 0 }) }))
   unfolding written_form form_text plain_text both_texts name_at
-  plain_named i z w e = record { text = λ own o s. rw (q, takes own o, z, e.key_is, name_letters i, w.letters); name = rw q tt; prefix = w.letters }
+  plain_named i z w e = record {
+    text = λ own o s. rw (q, takes own o, z, e.key_is, name_letters i, append-nil, w.letters);
+    name = rw q (record { start = refl; end = refl });
+    prefix = w.letters;
+  }
 
 module _ {m : ℕ} {s : List ℕ} {r : SourceTerm} {f : UnitForm} (w : PlainOf m r (Some f)) (v : LettersInside s r.unit) where
   pub plain_in : NameInside s f.name
   plain_in = go r.unit.unit f.name v.inside w.name
     where
       go : (u : UnitAt) (n : NameForm) → UnitInside s u → PlainName u n → NameInside s n
-      go (unit.Known u) (Known k) a q = tt
-      go (unit.Known u) (Plain p) a q = absurd q
-      go (unit.Known u) (Quoted p) a q = absurd q
-      go (unit.Unknown l) (Known k) a q = absurd q
-      go (unit.Unknown l) (Plain p) a q = rw q a
-      go (unit.Unknown l) (Quoted p) a q = absurd q
+      go (unit.Known u) (Plain k p) a q = record { forward = omega (arith, q.start); within = omega (arith, q.end) }
+      go (unit.Known u) (Quoted k p) a q = absurd q
+      go (unit.Unknown l) (Plain k p) a q = rw q.letters a
+      go (unit.Unknown l) (Quoted k p) a q = absurd q
 
   -- it is short enough for the array
   plain_short : length s ≤ most_bytes → length (form_text s f) ≤ text_room
@@ -193,10 +199,13 @@ module _ {m : ℕ} {s : List ℕ} {r : SourceTerm} {f : UnitForm} (w : PlainOf m
   plain_short h = rw length-append (go r.unit.unit f.name plain_in w.name)
     where
       go : (u : UnitAt) (n : NameForm) → NameInside s n → PlainName u n → length (letters_of most_in_prefix f.prefix) + length (name_text s n) ≤ text_room
-      go u (Known k) i q = omega (arith, letters_most 2 f.prefix, letters_most 8 k)
-      go u (Plain p) i q = omega (arith, letters_most 2 f.prefix, length_between s p.start p.end i.within)
-      go (unit.Known u) (Quoted p) i q = absurd q
-      go (unit.Unknown l) (Quoted p) i q = absurd q
+      go (unit.Known u) (Plain k p) i q =
+          rw length-append (omega (arith, letters_most 2 f.prefix, letters_most 8 k, length_between s p.start p.end i.within, q.start, q.end))
+      go (unit.Unknown l) (Plain k p) i q =
+          let none : length (letters_of 8 k) ≡ 0 = ap (λ (n : ℕ). length (letters_of 8 n)) q.keyless ∙ keyless in
+          rw length-append (omega (arith, letters_most 2 f.prefix, none, length_between s p.start p.end i.within))
+      go (unit.Known u) (Quoted k p) i q = absurd q
+      go (unit.Unknown l) (Quoted k p) i q = absurd q
 
   -- so the array keeps it
   pub plain_kept : {t u : Option (List ℕ)} → length s ≤ most_bytes → u ≡ Some [] → Writes text_room u (form_text s f) t → t ≡ Some (form_text s f)
@@ -225,8 +234,8 @@ module _ {m : ℕ} {s : List ℕ} {r : SourceTerm} {f : UnitForm} (w : PlainOf m
       reads_other e k = sym (known_text y m own s r.unit t here k false (compared ∙ e))
 
       module _ (e : c ≡ false) {l : Span} (k : r.unit.unit ≡ unit.Unknown l) where
-        pub reads_quoted : y.quotes ≡ true → written_form s (Some (record { prefix = f.prefix; name = Quoted l })) ≡ target_text
-        unfolding written_form form_text
+        pub reads_quoted : y.quotes ≡ true → written_form s (Some (record { prefix = f.prefix; name = Quoted 0 l })) ≡ target_text
+        unfolding written_form form_text letters_of
         reads_quoted g = rw w.prefix (sym (unknown_is y m own s r.unit t here k false (compared ∙ e) ∙ rw g))
 
         pub reads_not : y.quotes ≡ false → written_form s None ≡ target_text

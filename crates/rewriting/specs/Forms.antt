@@ -8,15 +8,18 @@ use Rattle.label.specs.Rows.{Style}
 use Rattle.symbols.specs.declared.Span.{Span}
 use Rattle.symbols.specs.Keys.{most_letters}
 use Rattle.rewriting.specs.declared.form.NameForm.{NameForm}
-use Rattle.rewriting.specs.declared.form.NameForm.TheVariants.{Known, Plain, Quoted}
+use Rattle.rewriting.specs.declared.form.NameForm.TheVariants.{Plain, Quoted}
 use Rattle.rewriting.specs.declared.form.UnitForm.{UnitForm}
 use Rattle.rewriting.specs.Letters.{letters_of, most_in_prefix}
 
--- what is written after the prefix of a unit of the label s: a name, letters plainly, or letters in quotes
+-- the letters of a key, and letters of the label s
+abbrev pub key_and_letters : List ℕ → ℕ → Span → List ℕ
+key_and_letters s key p = letters_of most_letters key ++ between s p.start p.end
+
+-- what is written after the prefix of a unit of the label s: these letters plainly, or in quotes
 abbrev pub name_text : List ℕ → NameForm → List ℕ
-name_text s (Known key) = letters_of most_letters key
-name_text s (Plain p) = between s p.start p.end
-name_text s (Quoted p) = in_quotes (between s p.start p.end)
+name_text s (Plain key p) = key_and_letters s key p
+name_text s (Quoted key p) = in_quotes (key_and_letters s key p)
 
 -- a unit of the label s in its form
 unfoldable pub form_text : List ℕ → UnitForm → List ℕ
@@ -34,9 +37,8 @@ pub record SpanInside (s : List ℕ) (p : Span) : Type 0 where
 
 -- and so do those of a form
 abbrev pub NameInside : List ℕ → NameForm → Type 0
-NameInside s (Known key) = Unit {0}
-NameInside s (Plain p) = SpanInside s p
-NameInside s (Quoted p) = SpanInside s p
+NameInside s (Plain key p) = SpanInside s p
+NameInside s (Quoted key p) = SpanInside s p
 
 -- a unit in its form, and its exponent
 abbrev pub raised_text : Style → List ℕ → UnitForm → Exponent → Maybe (List ℕ)

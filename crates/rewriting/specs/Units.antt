@@ -5,12 +5,13 @@ use Rattle.label.specs.Options.{told}
 use Rattle.label.specs.Units.{unit_at}
 use Rattle.label.specs.Letters.{prefix_letters}
 use Rattle.label.specs.Writing.{name_in, both_texts}
+use Rattle.symbols.specs.declared.Span.{Span}
 use Rattle.symbols.specs.declared.SymbolAt.{SymbolAt}
 use Rattle.symbols.specs.declared.UnitAt.{UnitAt}
 use Rattle.symbols.specs.declared.UnitAt.TheVariants as unit
 use Rattle.symbols.specs.Views.{span_letters}
 use Rattle.rewriting.specs.declared.form.NameForm.{NameForm}
-use Rattle.rewriting.specs.declared.form.NameForm.TheVariants.{Known, Plain, Quoted}
+use Rattle.rewriting.specs.declared.form.NameForm.TheVariants.{Plain, Quoted}
 use Rattle.rewriting.specs.declared.form.UnitForm.{UnitForm}
 use Rattle.rewriting.specs.declared.name.Own.{Own}
 use Rattle.rewriting.specs.declared.unit.SourceTerm.{SourceTerm}
@@ -51,14 +52,21 @@ plain_name m own s (unit.Unknown l) = some (span_letters s l)
 unfoldable pub plain_text : ℕ → List ℕ → List ℕ → SymbolAt → Maybe (List ℕ)
 plain_text m own s x = both_texts (some (prefix_letters (told x.prefix))) (plain_name m own s x.unit)
 
--- what the form f has of a unit without quotes: the name of a known unit, or the letters of an unknown one
+-- the letters of the label are none
+pub record EmptySpan (p : Span) : Type 0 where
+  pub start : p.start ≡ 0
+  pub end : p.end ≡ 0
+
+-- the letters of the label are l, after those of no key
+pub record LettersAlone (key : ℕ) (p l : Span) : Type 0 where
+  pub keyless : key ≡ 0
+  pub letters : p ≡ l
+
+-- what the form f has of a unit without quotes: the name of a known unit alone, or the letters of an unknown one alone
 abbrev pub PlainName : UnitAt → NameForm → Type 0
-PlainName (unit.Known u) (Known key) = Unit {0}
-PlainName (unit.Known u) (Plain p) = ⊥
-PlainName (unit.Known u) (Quoted p) = ⊥
-PlainName (unit.Unknown l) (Known key) = ⊥
-PlainName (unit.Unknown l) (Plain p) = p ≡ l
-PlainName (unit.Unknown l) (Quoted p) = ⊥
+PlainName (unit.Known u) (Plain key p) = EmptySpan p
+PlainName (unit.Unknown l) (Plain key p) = LettersAlone key p l
+PlainName u (Quoted key p) = ⊥
 
 -- f is the form of a term's unit without quotes in notation m
 pub record PlainOf (m : ℕ) (r : SourceTerm) (f : Option UnitForm) : Type 0 where

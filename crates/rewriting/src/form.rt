@@ -12,12 +12,12 @@ const NAME_LETTERS: u8 = MOST_LETTERS as u8;
 
 const PREFIX_LETTERS: u8 = 2;
 
-// What is written for a unit after its prefix: the name of that key; the letters of an unknown unit in the label; or these in quotes.
+// What is written for a unit after its prefix, plainly or in quotes: the letters of a key, and letters of the label. A known unit has no letters of the
+// label, and an unknown one has the key 0, which is that of no letters.
 #[derive(Clone, Copy)]
 pub enum NameForm {
-    Known(u64),
-    Plain(Span),
-    Quoted(Span),
+    Plain(u64, Span),
+    Quoted(u64, Span),
 }
 
 #[derive(Clone, Copy)]
@@ -33,10 +33,13 @@ fn push_name<const N: usize>(text: &mut Text<N>, s: &[u8], name: NameForm)
     ensures { Writes N text.old (name_text s.now name) text.new }
 {
     match name {
-        NameForm::Known(key) => push_key(text, NAME_LETTERS, key),
-        NameForm::Plain(span) => text.append(&s[span.start..span.end]),
-        NameForm::Quoted(span) => {
+        NameForm::Plain(key, span) => {
+            push_key(text, NAME_LETTERS, key);
+            text.append(&s[span.start..span.end]);
+        }
+        NameForm::Quoted(key, span) => {
             text.push(b'\'');
+            push_key(text, NAME_LETTERS, key);
             text.append(&s[span.start..span.end]);
             text.push(b'\'');
         }

@@ -54,8 +54,11 @@ fn plain_form(m: u8, term: SourceTerm) -> Option<UnitForm>
     ensures { PlainOf m term result }
 {
     let name = match term.unit.unit {
-        UnitAt::Known(unit) => NameForm::Known(nth_name(name_in(m, names_of(unit), term.own)?).key),
-        UnitAt::Unknown(letters) => NameForm::Plain(letters),
+        UnitAt::Known(unit) => {
+            let place = name_in(m, names_of(unit), term.own)?;
+            NameForm::Plain(nth_name(place).key, Span { start: 0, end: 0 })
+        }
+        UnitAt::Unknown(letters) => NameForm::Plain(0, letters),
     };
     let prefix = u64::from(code_of(term.unit.prefix) % TWO_BYTES);
     Some(UnitForm { prefix, name })
@@ -81,7 +84,7 @@ pub fn form_of(style: Style, s: &[u8], term: SourceTerm) -> Option<UnitForm>
     match term.unit.unit {
         UnitAt::Unknown(letters) if style.quotes => Some(UnitForm {
             prefix: form.prefix,
-            name: NameForm::Quoted(letters),
+            name: NameForm::Quoted(0, letters),
         }),
         _ => None,
     }

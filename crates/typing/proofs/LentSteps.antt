@@ -18,9 +18,9 @@ use Rattle.label.specs.Reading.{Reading, refusal}
 use Rattle.record.specs.Record.{digits, value, buffer_after}
 use Rattle.typing.specs.declared.state.Typing.{Typing}
 use Rattle.typing.specs.declared.state.Sent.{Sent}
-use Rattle.typing.specs.Typing.{fresh_state, has_ended, after_the_end, sent, read_as_typed, end_reading, after_end}
+use Rattle.typing.specs.Typing.{fresh_state, has_ended, after_the_end, sent, end_reading, after_end}
 use Rattle.typing.specs.Layout.{number_bytes, count_offset, ended_offset, room_offset, state_size, ended_byte, state_head, state_in, lent_state, replaced, lent_after_begin, begin_number, lent_after_part, lent_after_end}
-use Rattle.typing.proofs.PartSteps.{sent_ended, sent_going, end_reading_ended, buffer_refused, ended_first}
+use Rattle.typing.proofs.PartSteps.{sent_ended, sent_going, end_reading_ended, buffer_refused}
 use Rattle.typing.proofs.Layouts.{lent_state_short, lent_state_long, renewed_going, renewed_ended, begun_with_room}
 
 -- NUMBERS OF FOUR BYTES
@@ -113,14 +113,10 @@ module _ (b : List ℕ) (t : Typing) (loads : t ≡ lent_state b) where
         (sym (renewed_ended b (after_end (lent_state b)) h), buffer_refused after_the_end d (omega arith) ∙ sym (ap (λ (r : Reading). buffer_after r d) e)),
       )
 
-  pub ends_before : (d d' c : List ℕ) (n : ℕ) → has_ended (lent_state b) ≡ false → n ≡ (read_as_typed t).number → d' ≡ buffer_after (read_as_typed t) d
-      → c ≡ replaced b (record { notation = t.notation; count = t.count; ended = true; room = t.room })
-      → (n ≡ (end_reading (lent_state b)).number) × ((c ≡ lent_after_end b) × (d' ≡ buffer_after (end_reading (lent_state b)) d))
-  ends_before d d' c n h e g q =
-      let all = ended_first t d (ap has_ended loads ∙ h) e g in (
-        all.0 ∙ ap (λ (x : Typing). (end_reading x).number) loads,
-        (
-          q ∙ ap (replaced b) (all.1.0 ∙ ap after_end loads) ∙ sym (renewed_going b (after_end (lent_state b)) h),
-          all.1.1 ∙ ap (λ (x : Typing). buffer_after (end_reading x) d) loads,
-        ),
-      )
+  pub ends_before : (d d' c : List ℕ) (r : Sent) → has_ended (lent_state b) ≡ false → r.number ≡ (end_reading t).number → r.state ≡ after_end t
+      → d' ≡ buffer_after (end_reading t) d → c ≡ replaced b r.state
+      → (r.number ≡ (end_reading (lent_state b)).number) × ((c ≡ lent_after_end b) × (d' ≡ buffer_after (end_reading (lent_state b)) d))
+  ends_before d d' c r h e f g q = (
+    e ∙ ap (λ (x : Typing). (end_reading x).number) loads,
+    (q ∙ ap (replaced b) (f ∙ ap after_end loads) ∙ sym (renewed_going b (after_end (lent_state b)) h), g ∙ ap (λ (x : Typing). buffer_after (end_reading x) d) loads),
+  )

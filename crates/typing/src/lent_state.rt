@@ -6,7 +6,7 @@ ghost use Rattle.typing.specs.Typing.{sent, end_reading};
 ghost use Rattle.typing.specs.Layout.{number_bytes, state_size, lent_state, replaced, lent_after_begin, begin_number, lent_after_part, lent_after_end};
 
 use crate::state::{Typing, fresh_state};
-use label::{MOST_BYTES, Refusal};
+use label::{MOST_BYTES, Refusal, number_of_answer};
 
 // Places in a lent state, in bytes, and how many bytes it has.
 const COUNT_OFFSET: usize = 4;
@@ -77,18 +77,18 @@ pub fn send_lent(state: &mut [u8], part: &[u8]) -> Result<(), Refusal>
     Ok(())
 }
 
-// Ends the label: why it is refused, or its record in the lent buffer, and a state that has ended.
-pub fn end_lent(state: &mut [u8], buffer: &mut [u8]) -> Result<(), Refusal>
-    ensures value { number_in result ≡ (end_reading (lent_state state.old)).number }
+// Ends the label: its number, its record in the lent buffer where that is 0, and a state that has ended. The number is that of `Sent`, which the claims
+// speak of.
+pub fn end_lent(state: &mut [u8], buffer: &mut [u8]) -> u32
+    ensures value { result ≡ (end_reading (lent_state state.old)).number }
     ensures state_after { state.new ≡ lent_after_end state.old }
     ensures buffer_after { buffer.new ≡ buffer_after (end_reading (lent_state state.old)) buffer.old }
 {
-    let mut t = load_state(state);
+    let t = load_state(state);
     if t.has_ended() {
-        return Err(Refusal::AfterTheEnd);
+        return number_of_answer(Err(Refusal::AfterTheEnd));
     }
-    let answer = t.read(buffer);
-    t.ended = true;
-    store_state(&t, state);
-    answer
+    let r = t.end_label(buffer);
+    store_state(&r.state, state);
+    r.number
 }

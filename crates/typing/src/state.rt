@@ -56,9 +56,11 @@ fn capped(count: u32, size: usize) -> u32
 fn put_part(room: &mut [u8], at: usize, part: &[u8])
     ensures { room.new ≡ take at room.old ++ written_over part.now (drop at room.old) }
 {
-    let from = at.min(room.len());
-    let size = part.len().min(room.len() - from);
-    room[from..from + size].copy_from_slice(&part[..size]);
+    if room.len() <= at {
+        return;
+    }
+    let size = part.len().min(room.len() - at);
+    room[at..at + size].copy_from_slice(&part[..size]);
 }
 
 impl Typing {
@@ -80,7 +82,10 @@ impl Typing {
             };
         }
         let count = self.count;
-        put_part(&mut self.room, count as usize, part);
+        // In a local: in place the room would be copied once more.
+        let mut room = self.room;
+        put_part(&mut room, count as usize, part);
+        self.room = room;
         self.count = capped(count, part.len());
         Sent {
             number: 0,
@@ -89,7 +94,7 @@ impl Typing {
     }
 
     // Reads the label that has come, and answers why it is refused, or writes the reading's record in the lent buffer.
-    pub(crate) fn read(&self, buffer: &mut [u8]) -> Result<(), Refusal>
+    fn read(&self, buffer: &mut [u8]) -> Result<(), Refusal>
         ensures value { number_in result ≡ (read_as_typed self.now).number }
         ensures buffer_after { buffer.new ≡ buffer_after (read_as_typed self.now) buffer.old }
     {

@@ -22,8 +22,8 @@ use Rattle.rewriting.specs.Sources.{source_terms}
 use Rattle.rewriting.proofs.TextLaws.{held_whole, from_start}
 use Rattle.rewriting.proofs.Delivering.{refused_first}
 use Rattle.words.specs.Speech.{SaysWords, ShortWords, words_answer}
-use Rattle.std.specs.Prelude.{Option, Some, None, MatchOption}
-use Rattle.std.specs.Option.{unwrap_or}
+use Rattle.std.specs.Prelude.{Option, Some}
+use Rattle.std.proofs.lemmas.Option.{same_Some}
 use Rattle.std.specs.Prelude.{min}
 
 -- WORDS WITHOUT THE FIRST SPACE
@@ -44,11 +44,6 @@ spaces_size (w ∷ ws) = omega arith
 pub written_words : {u v : Option (List ℕ)} {ws : List Word} → ShortWords ws → u ≡ Some [] → SaysWords (suc most_spoken) u ws v → v ≡ Some (spaced_words ws)
 written_words {ws = ws} h e a = from_start e a.says ∙ held_whole (suc most_spoken) (spaced_words ws) h.short
 
-pub given_words : {B : Type 0} (now : B → List ℕ) (r : Option B) (d : B) {v : Option (List ℕ)} {x : List ℕ} → v ≡ Some x
-    → MatchOption r (v ≡ None) (λ b. v ≡ Some (now b)) → now (unwrap_or r d) ≡ x
-given_words now None d e h = absurd (cc)
-given_words now (Some b) d e h = cc
-
 -- without the first space, if there is one
 pub without_space : (ws : List Word) (n : ℕ) → n ≡ min (length (spaced_words ws)) 1 → drop n (spaced_words ws) ≡ joined_words ws
 without_space ws n e = rw e (go (spaced_words ws)) ∙ sym (joined_after ws)
@@ -62,11 +57,11 @@ rest_is : (x : List ℕ) (n : ℕ) → take (length x - n) (drop n x) ≡ drop n
 rest_is x n = take_all (length x - n) (drop n x) (simp length-drop (omega arith))
 
 -- what is delivered of the words that were written
-pub words_given : {B : Type 0} (now : B → List ℕ) (r : Option B) (d b : B) {v : Option (List ℕ)} (ws : List Word) (n : ℕ) → v ≡ Some (spaced_words ws)
-    → MatchOption r (v ≡ None) (λ c. v ≡ Some (now c)) → b ≡ unwrap_or r d → n ≡ min (length (now b)) 1 → take (length (now b) - n) (drop n (now b)) ≡ joined_words ws
-words_given now r d b ws n k m e f =
-    let q : now b ≡ spaced_words ws = ap now e ∙ given_words now r d k m in
-    rest_is (now b) n ∙ ap (λ (x : List ℕ). drop n x) q ∙ without_space ws n (f ∙ ap (λ (x : List ℕ). min (length x) 1) q)
+pub words_given : (x : List ℕ) {v : Option (List ℕ)} (ws : List Word) (n : ℕ) → v ≡ Some (spaced_words ws) → v ≡ Some x → n ≡ min (length x) 1
+    → take (length x - n) (drop n x) ≡ joined_words ws
+words_given x ws n k m f =
+    let q : x ≡ spaced_words ws = same_Some _ _ (sym m ∙ k) in
+    rest_is x n ∙ ap (λ (y : List ℕ). drop n y) q ∙ without_space ws n (f ∙ ap (λ (y : List ℕ). min (length y) 1) q)
 
 joined_short : (ws : List Word) → length (joined_words ws) ≤ length (spaced_words ws)
 unfolding joined_words spaced_words

@@ -6,10 +6,10 @@ use lib.ListN.{length, length-append}
 use Rattle.std.proofs.lemmas.Slice.Zip.{zip_turn, zip_end}
 use Rattle.label.specs.Reading.{base_in}
 use Rattle.descent.specs.declared.terms.Term.{Term}
-use Rattle.descent.specs.Terms.{count, terms}
+use Rattle.descent.specs.Terms.{terms}
 use Rattle.content.specs.Views.{terms_in}
 use Rattle.content.proofs.Turns.{Turn, turn, turns}
-use Rattle.content.proofs.TotalLaws.{no_totals, one_total, zeros_within, summable, bound_more, dimensions_are}
+use Rattle.content.proofs.TotalLaws.{no_totals, one_total, zeros_within, summable, bound_more, same_totals, dimensions_are}
 use Rattle.content.proofs.dimensions.dimensions.Goals as goal
 
 pub loop-term-init : goal.loop-term-init
@@ -21,9 +21,9 @@ add_bases-requires c =
     let t = c.args.terms.now in
     let x = c.args.symbols.now in
     let i = length c.loop-term.yielded in
-    let at : Turn t x i c.in-Some.term.now c.in-Some.symbol.now =
-    turn t x i
-    (zip_turn (terms t (count t)) x c.loop-term.yielded c.into_iter-term-iterator.result c.loop-term.term-iterator c.next.new.self c.next.result
+    let at : Turn t x c.args.count i c.in-Some.term.now c.in-Some.symbol.now =
+    turn t x c.args.count i
+    (zip_turn (terms t c.args.count) x c.loop-term.yielded c.into_iter-term-iterator.result c.loop-term.term-iterator c.next.new.self c.next.result
     (cc) (cc) c.loop-term.yielded_by _ c.in-Some.is c.next.ensures.steps) in
     summable i (c.loop-term.invariant.totals []).room (omega arith) c.loop-term.invariant.small
 
@@ -32,9 +32,9 @@ loop-term-preserved c =
     let t = c.args.terms.now in
     let x = c.args.symbols.now in
     let i = length c.loop-term.yielded in
-    let at : Turn t x i c.in-Some.term.now c.in-Some.symbol.now =
-    turn t x i
-    (zip_turn (terms t (count t)) x c.loop-term.yielded c.into_iter-term-iterator.result c.loop-term.term-iterator c.next.new.self c.next.result
+    let at : Turn t x c.args.count i c.in-Some.term.now c.in-Some.symbol.now =
+    turn t x c.args.count i
+    (zip_turn (terms t c.args.count) x c.loop-term.yielded c.into_iter-term-iterator.result c.loop-term.term-iterator c.next.new.self c.next.result
     (cc) (cc) c.loop-term.yielded_by _ c.in-Some.is c.next.ensures.steps) in
     let more = bound_more i c.loop-term.invariant.small (c.add_bases.ensures []) in
     rw length-append (record {
@@ -47,9 +47,9 @@ returns c =
     let t = c.args.terms.now in
     let x = c.args.symbols.now in
     let i = length c.loop-term.yielded in
-    let room : length (terms t (count t)) ≡ count t = omega arith in
-    let e : i ≡ count t =
-    turns t x i
-    (zip_end (terms t (count t)) x c.loop-term.yielded c.into_iter-term-iterator.result c.loop-term.term-iterator c.next.new.self c.next.result
+    let room : length (terms t c.args.count) ≡ c.args.count = omega arith in
+    let e : i ≡ c.args.count =
+    turns t x c.args.count i
+    (zip_end (terms t c.args.count) x c.loop-term.yielded c.into_iter-term-iterator.result c.loop-term.term-iterator c.next.new.self c.next.result
     (cc) (cc) c.loop-term.yielded_by c.in-None.is c.next.ensures.steps) room (omega arith) in
-    λ s. rw e at (dimensions_are (terms_in s t x i) c.loop-term.sums (c.loop-term.invariant.totals s))
+    λ s u h. rw e at (dimensions_are (terms_in s u x i) c.loop-term.sums (same_totals s t u x i (rw e h) (c.loop-term.invariant.totals s)))

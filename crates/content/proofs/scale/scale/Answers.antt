@@ -7,10 +7,10 @@ use Rattle.std.proofs.lemmas.Slice.Zip.{zip_turn, zip_end}
 use Rattle.label.specs.Reading.{prime_in}
 use Rattle.symbols.specs.Slots.{prime_at}
 use Rattle.descent.specs.declared.terms.Term.{Term}
-use Rattle.descent.specs.Terms.{count, terms}
+use Rattle.descent.specs.Terms.{terms}
 use Rattle.content.specs.Views.{terms_in}
 use Rattle.content.proofs.Turns.{Turn, turn, turns}
-use Rattle.content.proofs.TotalLaws.{no_totals, one_total, tens_are, tens_within, summable, bound_more, scale_is}
+use Rattle.content.proofs.TotalLaws.{no_totals, one_total, tens_are, tens_within, summable, bound_more, same_totals, scale_is}
 use Rattle.content.proofs.scale.scale.Goals as goal
 
 pub loop-term-init : goal.loop-term-init
@@ -25,9 +25,9 @@ add_primes-requires c =
     let t = c.args.terms.now in
     let x = c.args.symbols.now in
     let i = length c.loop-term.yielded in
-    let at : Turn t x i c.in-Some.term.now c.in-Some.symbol.now =
-    turn t x i
-    (zip_turn (terms t (count t)) x c.loop-term.yielded c.into_iter-term-iterator.result c.loop-term.term-iterator c.next.new.self c.next.result
+    let at : Turn t x c.args.count i c.in-Some.term.now c.in-Some.symbol.now =
+    turn t x c.args.count i
+    (zip_turn (terms t c.args.count) x c.loop-term.yielded c.into_iter-term-iterator.result c.loop-term.term-iterator c.next.new.self c.next.result
     (cc) (cc) c.loop-term.yielded_by _ c.in-Some.is c.next.ensures.steps) in
     summable i (c.loop-term.invariant.totals []).room (omega arith) c.loop-term.invariant.small
 
@@ -36,9 +36,9 @@ loop-term-preserved c =
     let t = c.args.terms.now in
     let x = c.args.symbols.now in
     let i = length c.loop-term.yielded in
-    let at : Turn t x i c.in-Some.term.now c.in-Some.symbol.now =
-    turn t x i
-    (zip_turn (terms t (count t)) x c.loop-term.yielded c.into_iter-term-iterator.result c.loop-term.term-iterator c.next.new.self c.next.result
+    let at : Turn t x c.args.count i c.in-Some.term.now c.in-Some.symbol.now =
+    turn t x c.args.count i
+    (zip_turn (terms t c.args.count) x c.loop-term.yielded c.into_iter-term-iterator.result c.loop-term.term-iterator c.next.new.self c.next.result
     (cc) (cc) c.loop-term.yielded_by _ c.in-Some.is c.next.ensures.steps) in
     let more = bound_more i c.loop-term.invariant.small (c.add_primes.ensures []) in
     rw length-append (record {
@@ -52,10 +52,10 @@ returns c =
     let t = c.args.terms.now in
     let x = c.args.symbols.now in
     let i = length c.loop-term.yielded in
-    let room : length (terms t (count t)) ≡ count t = omega arith in
-    let e : i ≡ count t =
-    turns t x i
-    (zip_end (terms t (count t)) x c.loop-term.yielded c.into_iter-term-iterator.result c.loop-term.term-iterator c.next.new.self c.next.result
+    let room : length (terms t c.args.count) ≡ c.args.count = omega arith in
+    let e : i ≡ c.args.count =
+    turns t x c.args.count i
+    (zip_end (terms t c.args.count) x c.loop-term.yielded c.into_iter-term-iterator.result c.loop-term.term-iterator c.next.new.self c.next.result
     (cc) (cc) c.loop-term.yielded_by c.in-None.is c.next.ensures.steps) room (omega arith) in
     let starts = tens_are c.in_sixtieths-tens.result c.in_sixtieths-tens.ensures.1 k c.in_sixtieths-tens.ensures.0 in
-    ((c.loop-term.invariant.totals []).room, λ s. rw e at (scale_is k (terms_in s t x i) _ c.loop-term.sums refl starts (c.loop-term.invariant.totals s)))
+    ((c.loop-term.invariant.totals []).room, λ s u h. rw e at (scale_is k (terms_in s u x i) _ c.loop-term.sums refl starts (same_totals s t u x i (rw e h) (c.loop-term.invariant.totals s))))

@@ -8,4 +8,4 @@ pub returns-in_err-p : goal.returns-in_err-p
 returns-in_err-p c = rw c.from_residual-in_err-p.ensures (unit_unpowered c.in_ok-end.ensures c.in_err-p.ensures)
 
 pub returns : goal.returns
-returns c = unit_read c.in_ok-end.ensures c.in_ok-p.ensures c.requires c.exponent_of.ensures c.keep.ensures
+returns c = unit_read c.in_ok-end.ensures c.in_ok-p.ensures c.requires (rw (← c.ok_or-exponent.ensures.ok_part) c.exponent_of.ensures) c.keep.ensures

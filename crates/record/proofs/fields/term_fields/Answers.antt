@@ -11,5 +11,5 @@ use Rattle.record.proofs.fields.term_fields.Goals as goal
 pub returns-clause-by_index : goal.returns-clause-by_index
 returns-clause-by_index c =
     let exponent_fits : SFits w32 (term_at c.args.content.now.terms c.args.i).exponent.0 = record { sfits = search rules } in
-    term_is c.requires.1 _ _ (get_or_default c.args.content.now.symbols c.args.i _ _ (omega arith)) c.code.ensures c.code-2.ensures c.row.ensures
-    c.from.ensures exponent_fits c.letters-letters.ensures
+    term_is c.requires.1 _ _ (get_or_default c.args.content.now.symbols c.args.i _ _ (omega arith)) c.code.ensures c.code-2.ensures c.known_row.ensures
+    c.from.ensures exponent_fits c.letter_span-letters.ensures

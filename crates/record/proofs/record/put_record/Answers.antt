@@ -22,4 +22,4 @@ returns c =
     c.head_fields-head.result (terms_fields (terms_in s k.terms k.symbols n)) k.sums.bases k.sums.primes n c.args.b.now c.put_all.new.b c.put_terms.new.b c.clear.new.b c.put_all-2.new.b c.put_all-3.new.b
     (ap length c.head_fields-head.ensures) bases primes room
     c.put_all.ensures (c.put_terms.ensures s w) (cleared c.put_terms.new.b c.clear.new.b n c.requires.1.few c.clear.ensures) c.put_all-2.ensures c.put_all-3.ensures
-    ∙ fields_are s k c.args.a primes c.head_fields-head.ensures
+    ∙ fields_are s c.args.number k c.args.a primes c.head_fields-head.ensures

@@ -21,8 +21,8 @@ loop-term-preserved g c =
     let t = c.args.content.now.terms in
     let x = c.args.content.now.symbols in
     let i = length c.loop-term.yielded in
-    let at : Turn t x i c.in-Some.term.now c.in-Some.symbol.now =
-    turn t x i
+    let at : Turn t x (count t) i c.in-Some.term.now c.in-Some.symbol.now =
+    turn t x (count t) i
     (zip_turn (terms t (count t)) x c.loop-term.yielded c.into_iter-term-iterator.result c.loop-term.term-iterator c.next.new.self c.next.result
     (cc) (cc) c.loop-term.yielded_by _ c.in-Some.is c.next.ensures.steps) in
     rw length-append
@@ -33,8 +33,8 @@ say_symbol-requires g c =
     let t = c.args.content.now.terms in
     let x = c.args.content.now.symbols in
     let i = length c.loop-term.yielded in
-    let at : Turn t x i c.in-Some.term.now c.in-Some.symbol.now =
-    turn t x i
+    let at : Turn t x (count t) i c.in-Some.term.now c.in-Some.symbol.now =
+    turn t x (count t) i
     (zip_turn (terms t (count t)) x c.loop-term.yielded c.into_iter-term-iterator.result c.loop-term.term-iterator c.next.new.self c.next.result
     (cc) (cc) c.loop-term.yielded_by _ c.in-Some.is c.next.ensures.steps) in
     let h : i < count t = omega (arith, at.below, length-take (count t) t.items) in
@@ -49,7 +49,7 @@ returns g c =
     let room : length (terms t (count t)) ≡ count t = omega (arith, length-take (count t) t.items, c.requires.few) in
     let names : length x ≡ 32 = search rules in
     let e : i ≡ count t =
-    turns t x i
+    turns t x (count t) i
     (zip_end (terms t (count t)) x c.loop-term.yielded c.into_iter-term-iterator.result c.loop-term.term-iterator c.next.new.self c.next.result
     (cc) (cc) c.loop-term.yielded_by c.in-None.is c.next.ensures.steps) room (omega (arith, c.requires.few)) in
     all_said c.loop-term.invariant _ c.say_factor.ensures (omega arith)

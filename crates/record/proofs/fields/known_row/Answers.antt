@@ -1,6 +1,6 @@
--- `record::fields::row` meets its contract: a known unit, and an unknown one.
+-- `record::fields::known_row` meets its contract: a known unit, and an unknown one.
 use Rattle.record.specs.Record.{unit_code}
-use Rattle.record.proofs.fields.row.Goals as goal
+use Rattle.record.proofs.fields.known_row.Goals as goal
 
 pub returns-in-Known : goal.returns-in-Known
 unfolding unit_code

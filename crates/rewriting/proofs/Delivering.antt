@@ -29,6 +29,7 @@ use Rattle.reading.specs.Answers.{AcceptedReading}
 use Rattle.reading.proofs.Answering.{refusal_some}
 use Rattle.notations.specs.declared.rows.Style.{Style}
 use Rattle.notations.specs.Styles.{style_in, StyleOf}
+use Rattle.rewriting.specs.declared.text.Unkept.{Unkept}
 use Rattle.rewriting.specs.Texts.{WritesForm}
 use Rattle.rewriting.specs.Units.{UnitInside}
 use Rattle.rewriting.specs.Sources.{AllTerms, source_terms}
@@ -101,16 +102,16 @@ module _ {m : ℕ} {y : Style} (v : StyleOf m y) (h : notation m ≡ true) (k : 
   unfolding sized
   formless_is e = wanted_is ∙ rw e
 
-  module _ {u w : Option (List ℕ)} (e : u ≡ Some []) (f : WritesForm 255 u (label_text (style_in y) y.notation k ws) w) where
+  module _ {u w : Result (List ℕ) Unkept} (e : u ≡ Ok []) (f : WritesForm 255 u (label_text (style_in y) y.notation k ws) w) where
     -- 13
-    pub long_is : w ≡ None → wanted ≡ refuse_rewriting 13
+    pub long_is : {x : Unkept} → w ≡ Err x → wanted ≡ refuse_rewriting 13
     unfolding sized unless
     long_is g =
-        let l : 255 < length f.text = held_over 255 f.text (sym g ∙ from_start e f.writes) in
+        let l : 255 < length f.text = (held_over 255 f.text (sym g ∙ from_start e f.writes)).1 in
         wanted_is ∙ rw (f.form, lt-leb (length f.text) 255 l)
 
     -- the text that was written
-    pub text_is : (t : List ℕ) → w ≡ Some t → (wanted ≡ accepted t) × (length t ≤ 255)
+    pub text_is : (t : List ℕ) → w ≡ Ok t → (wanted ≡ accepted t) × (length t ≤ 255)
     unfolding sized unless
     text_is t g =
         let l = held_some 255 f.text (sym g ∙ from_start e f.writes) in

@@ -7,7 +7,7 @@ use Rattle.std.proofs.Math.Nat.{min-eq_left}
 use mathlib.Core.Path.{◌≡◌, refl, sym, ap, ◌∙◌}
 use mathlib.Core.List.{List, [], ◌∷◌, ◌++◌, map}
 use mathlib.Core.Option.{Option as Maybe, none, some}
-use Rattle.std.specs.Prelude.{Option, Some, None}
+use Rattle.std.specs.Prelude.{Option, Result}
 use lib.ListN.{length, get_or, length-append}
 use Rattle.std.proofs.lemmas.List.{get_or_default}
 use Rattle.label.specs.declared.Tens.{Tens}
@@ -29,12 +29,13 @@ use Rattle.reading.specs.declared.read.Content.{Content}
 use Rattle.rewriting.specs.declared.form.UnitForm.{UnitForm}
 use Rattle.rewriting.specs.declared.name.Own.{Own}
 use Rattle.rewriting.specs.declared.unit.SourceTerm.{SourceTerm}
-use Rattle.rewriting.specs.Texts.{Writes, WritesForm}
+use Rattle.rewriting.specs.declared.text.Unkept.{Unkept}
+use Rattle.rewriting.specs.Texts.{Adds, Writes, WritesForm}
 use Rattle.rewriting.specs.Names.{OwnOf}
 use Rattle.rewriting.specs.Forms.{written_form, raised_text, joint_before}
 use Rattle.rewriting.specs.Units.{PrefixCode, LettersInside, OwnsName, Owns}
 use Rattle.rewriting.specs.Sources.{first_terms, read_term, source_terms, AllTerms, own_of, TermIs}
-use Rattle.rewriting.proofs.TextLaws.{both_assoc, both_empty, both_start, both_none, writes_nothing, has_form, both_forms}
+use Rattle.rewriting.proofs.TextLaws.{both_assoc, both_empty, both_start, both_none, writes_nothing, has_form, both_forms, loses_after, form_loses_after}
 
 -- A TERM
 
@@ -74,13 +75,9 @@ module _ (y : Style) (m : ℕ) (s : List ℕ) (c : Content) (i : ℕ) {x : Symbo
       sym (g (own_of s (term_at c.terms i) (noted_symbol c.symbols i)) (rw q at v.own)
       ∙ ap (λ (u : SymbolAt). symbol_text y m (own_of s (term_at c.terms i) (noted_symbol c.symbols i)) (symbol_in s u)) (v.unit ∙ q))
 
-  pub term_formless : o ≡ None → unit_text y m (writable s (read_term s c i)) ≡ none
-  unfolding unit_text writable written_form both_texts
-  term_formless e = rw (symbol_written, e)
-
-  pub term_raised : {f : UnitForm} → o ≡ Some f → raised_text y s f (term_at c.terms i).exponent ≡ unit_text y m (writable s (read_term s c i))
-  unfolding unit_text writable written_form
-  term_raised e = rw (symbol_written, e)
+  pub term_raised : raised_text y s o (term_at c.terms i).exponent ≡ unit_text y m (writable s (read_term s c i))
+  unfolding unit_text writable
+  term_raised = rw symbol_written
 
 -- ONE TERM MORE
 
@@ -122,15 +119,15 @@ abbrev pub text_of : Style → ℕ → List ℕ → Content → ℕ → Maybe (L
 text_of y m s c i = terms_text y m (map (writable s) (first_terms s c i))
 
 -- from the value v of the array, the first i terms are written
-pub record Termed (n : ℕ) (y : Style) (m : ℕ) (s : List ℕ) (c : Content) (v w : Option (List ℕ)) (i : ℕ) : Type 0 where
+pub record Termed (n : ℕ) (y : Style) (m : ℕ) (s : List ℕ) (c : Content) (v w : Result (List ℕ) Unkept) (i : ℕ) : Type 0 where
   pub written : WritesForm n v (text_of y m s c i) w
 
 module _ (y : Style) (m : ℕ) (s : List ℕ) (c : Content) where
-  pub no_term_yet : {n : ℕ} {v : Option (List ℕ)} → Termed n y m s c v v 0
+  pub no_term_yet : {n : ℕ} {v : Result (List ℕ) Unkept} → Termed n y m s c v v 0
   unfolding terms_in terms_text
   no_term_yet = record { written = has_form refl writes_nothing }
 
-  pub no_terms : {n : ℕ} {v : Option (List ℕ)} (k : Tens) → count c.terms ≡ 0 → WritesForm n v (label_text y m k (map (writable s) (source_terms s c))) v
+  pub no_terms : {n : ℕ} {v : Result (List ℕ) Unkept} (k : Tens) → count c.terms ≡ 0 → WritesForm n v (label_text y m k (map (writable s) (source_terms s c))) v
   unfolding terms_in label_text
   no_terms k e = rw e (has_form refl writes_nothing)
 
@@ -164,13 +161,17 @@ module _ (y : Style) (m : ℕ) (s : List ℕ) (c : Content) where
       let q : text_of y m s c (i + 1) ≡ none = more_of i ∙ rw (e, both_none (some (joint_before y i)), both_none (text_of y m s c i)) in
       label_is k (omega arith) ∙ rw (none_after (count c.terms - (i + 1)) (i + 1) (count c.terms) (omega arith) q, both_none (factor_text y k))
 
-module _ {n : ℕ} {y : Style} {m : ℕ} {s : List ℕ} {c : Content} {v w : Option (List ℕ)} {i : ℕ} (l : Termed n y m s c v w i) where
-  pub next_term : {p q : Option (List ℕ)} → Writes n w (joint_before y i) p → WritesForm n p (unit_text y m (writable s (read_term s c i))) q → Termed n y m s c v q (i + 1)
+module _ {n : ℕ} {y : Style} {m : ℕ} {s : List ℕ} {c : Content} {v w : Result (List ℕ) Unkept} {i : ℕ} (l : Termed n y m s c v w i) where
+  pub next_term : {p q : Result (List ℕ) Unkept} → Writes n w (joint_before y i) p → WritesForm n p (unit_text y m (writable s (read_term s c i))) q → Termed n y m s c v q (i + 1)
   next_term a b = record { written = rw (more_of y m s c i) (both_forms l.written (both_forms (has_form refl a) b)) }
+
+  -- a term without a form, after the others
+  pub term_loses : {u p q : Result (List ℕ) Unkept} {o : Maybe (List ℕ)} → WritesForm n u o v → Writes n w (joint_before y i) p → Adds n p none q → Adds n u none q
+  term_loses f a b = form_loses_after f (form_loses_after l.written (loses_after a b))
 
   written_upto : (j : ℕ) → j ≡ i → WritesForm n v (text_of y m s c j) w
   written_upto j e = rw e l.written
 
-  pub all_terms : (k : Tens) {u : Option (List ℕ)} → 1 ≤ count c.terms → count c.terms ≡ i → WritesForm n u (factor_text y k) v
+  pub all_terms : (k : Tens) {u : Result (List ℕ) Unkept} → 1 ≤ count c.terms → count c.terms ≡ i → WritesForm n u (factor_text y k) v
       → WritesForm n u (label_text y m k (map (writable s) (source_terms s c))) w
   all_terms k h e a = rw (label_is y m s c k h) (both_forms a (written_upto (count c.terms) e))

@@ -7,7 +7,10 @@ use mathlib.Core.Bool.{Bool, true, false, ◌&&◌}
 use mathlib.Core.List.{List, [], ◌∷◌, ◌++◌, append-nil}
 use mathlib.Core.Option.{Option as Maybe, none, some}
 use lib.Pointwise.{pointwise}
-use Rattle.std.specs.Prelude.{Option, Some, None}
+use Rattle.std.specs.Prelude.{Option, Some, None, Result, Ok, Err, MatchResult}
+use Rattle.std.specs.Borrow.{Bor}
+use Rattle.std.specs.Result.{result_ok}
+use Rattle.std.proofs.lemmas.Option.{same_Some}
 use lib.Dec.{eqb}
 use lib.ListN.{length, length-append}
 use borrow.Author.Tests.{eq-eqb, ne_eqb}
@@ -36,12 +39,13 @@ use Rattle.rewriting.specs.declared.form.NameForm.TheVariants.{Plain, Quoted}
 use Rattle.rewriting.specs.declared.form.UnitForm.{UnitForm}
 use Rattle.rewriting.specs.declared.name.NameRange.{NameRange}
 use Rattle.rewriting.specs.declared.unit.SourceTerm.{SourceTerm}
-use Rattle.rewriting.specs.Texts.{text_room, Writes}
+use Rattle.rewriting.specs.declared.text.Unkept.{Unkept}
+use Rattle.rewriting.specs.Texts.{text_room, held, WritesForm}
 use Rattle.rewriting.specs.Letters.{letters_of, most_in_prefix}
 use Rattle.rewriting.specs.Names.{name_at, names_in, NamesOf, OwnOf}
 use Rattle.rewriting.specs.Forms.{name_text, form_text, written_form, NameInside}
 use Rattle.rewriting.specs.Units.{PrefixCode, UnitInside, LettersInside, Owns, plain_name, plain_text, PlainName, PlainOf}
-use Rattle.rewriting.proofs.TextLaws.{held_whole, from_start}
+use Rattle.rewriting.proofs.TextLaws.{same_Ok, ok_err, held_whole, from_start}
 use Rattle.rewriting.proofs.LetterLaws.{letters_most}
 use Rattle.rewriting.proofs.NameTable.{name_letters}
 
@@ -208,8 +212,9 @@ module _ {m : ℕ} {s : List ℕ} {r : SourceTerm} {f : UnitForm} (w : PlainOf m
       go (unit.Unknown l) (Quoted k p) i q = absurd q
 
   -- so the array keeps it
-  pub plain_kept : {t u : Option (List ℕ)} → length s ≤ most_bytes → u ≡ Some [] → Writes text_room u (form_text s f) t → t ≡ Some (form_text s f)
-  plain_kept h e d = from_start e d ∙ held_whole text_room (form_text s f) (plain_short h)
+  pub plain_kept : {t u : Result (List ℕ) Unkept} → length s ≤ most_bytes → u ≡ Ok [] → WritesForm text_room u (written_form s (Some f)) t → t ≡ Ok (form_text s f)
+  unfolding written_form
+  plain_kept h e d = from_start e d.writes ∙ ap (λ (o : Maybe (List ℕ)). held text_room o) (sym d.form) ∙ held_whole text_room (form_text s f) (plain_short h)
 
   module _ (y : Style) (own : List ℕ) (o : Owns own r) where
     abbrev target_text : Maybe (List ℕ)
@@ -241,6 +246,21 @@ module _ {m : ℕ} {s : List ℕ} {r : SourceTerm} {f : UnitForm} (w : PlainOf m
         pub reads_not : y.quotes ≡ false → written_form s None ≡ target_text
         unfolding written_form
         reads_not g = sym (unknown_is y m own s r.unit t here k false (compared ∙ e) ∙ rw g)
+
+-- what an array kept is what is lent of it
+module _ {v : Result (List ℕ) Unkept} {t : List ℕ} (k : v ≡ Ok t) where
+  pub lent_text : (r : Result (Bor (List ℕ)) Unkept) {x : Bor (List ℕ)} → MatchResult r (λ s. v ≡ Ok s.now) (λ e. v ≡ Err e) → Some x ≡ result_ok r → t ≡ x.now
+  lent_text (Ok s) h e = let q : t ≡ s.now = same_Ok (sym k ∙ h) in let i = same_Some _ _ e in q ∙ ap (λ (y : Bor (List ℕ)). y.now) (sym i)
+  lent_text (Err u) h e = absurd (cc)
+
+  pub is_lent : (r : Result (Bor (List ℕ)) Unkept) → MatchResult r (λ s. v ≡ Ok s.now) (λ e. v ≡ Err e) → None ≡ result_ok r → ⊥
+  is_lent (Ok s) h e = cc
+  is_lent (Err u) h e = ok_err (sym k ∙ h)
+
+-- a unit in a form has one
+pub form_is : (s : List ℕ) (f : UnitForm) → written_form s (Some f) ≡ none → ⊥
+unfolding written_form
+form_is s f e = none_some (sym e)
 
 -- no name
 pub unnamed_plain : {m : ℕ} {r : SourceTerm} → PlainOf m r None → (s : List ℕ) (y : Style) (own : List ℕ) → Owns own r

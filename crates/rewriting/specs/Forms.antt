@@ -41,8 +41,8 @@ NameInside s (Plain key p) = SpanInside s p
 NameInside s (Quoted key p) = SpanInside s p
 
 -- a unit in its form, and its exponent
-abbrev pub raised_text : Style → List ℕ → UnitForm → Exponent → Maybe (List ℕ)
-raised_text y s f e = both_texts (some (form_text s f)) (exponent_text y e)
+abbrev pub raised_text : Style → List ℕ → Option UnitForm → Exponent → Maybe (List ℕ)
+raised_text y s f e = both_texts (written_form s f) (exponent_text y e)
 
 -- what joins term i to those before it
 unfoldable pub joint_before : Style → ℕ → List ℕ

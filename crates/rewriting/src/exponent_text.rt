@@ -74,6 +74,7 @@ fn push_power<const N: usize>(text: &mut Text<N>, style: Style, power: Power) ->
 {
     if power.d != 1 {
         if !style.fractions {
+            text.lose_form();
             return None;
         }
         push_fraction(text, style, power);

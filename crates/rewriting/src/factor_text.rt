@@ -27,6 +27,7 @@ pub fn push_factor<const N: usize>(text: &mut Text<N>, style: Style, k: Tens) ->
         return Some(());
     }
     if !style.factors {
+        text.lose_form();
         return None;
     }
     push_ten(text, style.ten_stars);

@@ -1,6 +1,7 @@
 // How a unit is written.
-ghost use Rattle.rewriting.specs.Texts.{Writes};
-ghost use Rattle.rewriting.specs.Forms.{name_text, form_text, NameInside};
+ghost use Rattle.std.specs.Prelude.{IfSome};
+ghost use Rattle.rewriting.specs.Texts.{Writes, WritesText};
+ghost use Rattle.rewriting.specs.Forms.{name_text, written_form, NameInside};
 
 use crate::letters::push_key;
 use crate::text::Text;
@@ -46,11 +47,16 @@ fn push_name<const N: usize>(text: &mut Text<N>, s: &[u8], name: NameForm)
     }
 }
 
-// Writes a unit of the label `s` in that form.
-pub fn push_form<const N: usize>(text: &mut Text<N>, s: &[u8], form: UnitForm)
-    requires { NameInside s.now form.name }
-    ensures { Writes N text.old (form_text s.now form) text.new }
+// Writes a unit of the label `s` in the form that it has, if any.
+pub fn push_form<const N: usize>(text: &mut Text<N>, s: &[u8], form: Option<UnitForm>) -> Option<()>
+    requires { IfSome form (λ f. NameInside s.now f.name) }
+    ensures { WritesText N text.old (written_form s.now form) result text.new }
 {
+    let Some(form) = form else {
+        text.lose_form();
+        return None;
+    };
     push_key(text, PREFIX_LETTERS, form.prefix);
     push_name(text, s, form.name);
+    Some(())
 }

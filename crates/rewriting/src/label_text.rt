@@ -1,5 +1,5 @@
 // A whole label as it is written.
-ghost use Rattle.std.specs.Prelude.{map};
+ghost use Rattle.std.specs.Prelude.{[], map, IfSome, Ok};
 ghost use Rattle.label.specs.Writing.{writable, label_text};
 ghost use Rattle.notations.specs.Styles.{style_in};
 ghost use Rattle.rewriting.specs.Texts.{Writes, WritesText};
@@ -32,22 +32,22 @@ fn push_joint<const N: usize>(text: &mut Text<N>, style: Style, i: usize)
     }
 }
 
-// Writes a unit in its form, and its exponent.
+// Writes a unit in its form, if it has one, and its exponent.
 fn push_term<const N: usize>(
     text: &mut Text<N>,
     style: Style,
     s: &[u8],
-    form: UnitForm,
+    form: Option<UnitForm>,
     exponent: Exponent,
 ) -> Option<()>
-    requires { NameInside s.now form.name }
+    requires { IfSome form (λ f. NameInside s.now f.name) }
     ensures { WritesText N text.old (raised_text (style_in style) s.now form exponent) result text.new }
 {
-    push_form(text, s, form);
+    push_form(text, s, form)?;
     push_exponent(text, style, exponent)
 }
 
-// Writes the factor and the terms.
+// Writes the factor and the terms, in place of what was written before.
 pub fn push_label<const N: usize>(
     text: &mut Text<N>,
     target: Target,
@@ -55,9 +55,10 @@ pub fn push_label<const N: usize>(
     content: &Content,
 ) -> Option<()>
     requires { AllTerms s.now content.now }
-    ensures { WritesText N text.old (label_text (style_in target.style) target.style.notation target.k
+    ensures { WritesText N (Ok []) (label_text (style_in target.style) target.style.notation target.k
         (map (writable s.now) (source_terms s.now content.now))) result text.new }
 {
+    text.clear();
     let count = content.terms.count;
     if count == 0 {
         return Some(());
@@ -67,7 +68,7 @@ pub fn push_label<const N: usize>(
     // By index: it says what joins a term to those before it, beside the places of the term and of its symbol.
     for i in 0..count {
         let term = content.terms.items[i];
-        let form = form_of(style, s, source_term(s, term, content.symbols[i]))?;
+        let form = form_of(style, s, source_term(s, term, content.symbols[i]));
         push_joint(text, style, i);
         push_term(text, style, s, form, term.exponent)?;
     }

@@ -57,7 +57,10 @@ fn write(m: u32, k: Tens, s: &[u8], content: &Content, buffer: &mut [u8]) -> Res
     let target = Target { style, k };
     let mut text = Text::<MOST_BYTES>::new();
     push_label(&mut text, target, s, content).ok_or(Refusal::NoForm)?;
-    deliver(text.written().ok_or(Refusal::LongResult)?, buffer)
+    let Ok(written) = text.written() else {
+        return Err(Refusal::LongResult); // it has a form
+    };
+    deliver(written, buffer)
 }
 
 // Reads the label `s` of notation `n`, and writes it in notation `m` into the lent buffer.

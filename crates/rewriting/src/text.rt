@@ -1,6 +1,7 @@
 // A text that is written piece by piece into an array.
-ghost use Rattle.std.specs.Prelude.{[], ◌∷◌, ◌≡◌, Some, None, MatchOption};
+ghost use Rattle.std.specs.Prelude.{[], ◌∷◌, ◌≡◌, Ok, Err, MatchResult};
 ghost use Rattle.label.specs.Choice.{pick};
+ghost use Rattle.rewriting.specs.declared.text.Unkept.TheVariants.{Formless};
 ghost use Rattle.rewriting.specs.Texts.{Writes};
 
 use std::marker::Model;
@@ -8,33 +9,43 @@ use std::marker::Model;
 // A spelling of 255 letters with a prefix and quotes fits.
 pub const ROOM: usize = 260;
 
-// A text in an array of `N` bytes. A longer one is not kept.
+// Why a text is not kept.
+#[derive(Clone, Copy)]
+pub enum Unkept {
+    // It is longer than the array.
+    TooLong,
+    // A piece of it has no form.
+    Formless,
+}
+
+// A text in an array of `N` bytes. A longer one is not kept, nor one without a form.
 #[derive(Drop)]
 pub struct Text<const N: usize> {
     bytes: [u8; N],
-    // How many of the bytes are written, where the text is no longer than the array.
-    length: Option<usize>,
+    // How many of the bytes are written, where the text is kept.
+    length: Result<usize, Unkept>,
 }
 
 impl<const N: usize> Model for Text<N> {
-    ghost use Rattle.std.specs.Prelude.{ℕ, ◌≤◌, List, take, Option, IfSome};
-    ghost use Rattle.std.specs.Option.{option_map};
+    ghost use Rattle.std.specs.Prelude.{ℕ, ◌≤◌, List, take, Result, IfOk};
+    ghost use Rattle.std.specs.Result.{result_map_both};
+    ghost use Rattle.rewriting.specs.declared.text.Unkept.{Unkept};
 
-    ghost Value = { Option (List ℕ) };
+    ghost Value = { Result (List ℕ) Unkept };
 
-    ghost view = { λ t. option_map (λ n. take n t.bytes) t.length };
+    ghost view = { λ t. result_map_both (λ n. take n t.bytes) (λ e. e) t.length };
 
-    ghost invariant = { λ t. IfSome t.length (λ n. n ≤ N) };
+    ghost invariant = { λ t. IfOk t.length (λ n. n ≤ N) };
 }
 
 impl<const N: usize> Text<N> {
     // An empty text.
     pub fn new() -> Self
-        ensures { result ≡ Some [] }
+        ensures { result ≡ Ok [] }
     {
         Text {
             bytes: [0; N],
-            length: Some(0),
+            length: Ok(0),
         }
     }
 
@@ -43,11 +54,12 @@ impl<const N: usize> Text<N> {
         ensures { Writes N self.old (byte ∷ []) self.new }
     {
         self.length = match self.length {
-            Some(length) if length < N => {
+            Ok(length) if length < N => {
                 self.bytes[length] = byte;
-                Some(length + 1)
+                Ok(length + 1)
             }
-            _ => None,
+            Ok(_) => Err(Unkept::TooLong),
+            Err(unkept) => Err(unkept),
         };
     }
 
@@ -69,11 +81,25 @@ impl<const N: usize> Text<N> {
         }
     }
 
-    // What is written, where it is no longer than the array.
-    pub fn written(&self) -> Option<&[u8]>
-        ensures { MatchOption result (self.now ≡ None) (λ s. self.now ≡ Some s.now) }
+    // Takes back all that was written.
+    pub fn clear(&mut self)
+        ensures { self.new ≡ Ok [] }
+    {
+        self.length = Ok(0);
+    }
+
+    // A piece has no form, so the text has none.
+    pub fn lose_form(&mut self)
+        ensures { self.new ≡ Err Formless }
+    {
+        self.length = Err(Unkept::Formless);
+    }
+
+    // What is written, or why it is not kept.
+    pub fn written(&self) -> Result<&[u8], Unkept>
+        ensures { MatchResult result (λ s. self.now ≡ Ok s.now) (λ e. self.now ≡ Err e) }
     {
         let length = self.length?;
-        Some(&self.bytes[..length])
+        Ok(&self.bytes[..length])
     }
 }

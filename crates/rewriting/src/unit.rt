@@ -74,8 +74,8 @@ pub fn form_of(style: Style, s: &[u8], term: SourceTerm) -> Option<UnitForm>
     let m = style.notation;
     let form = plain_form(m, term)?;
     let mut plain = Text::<ROOM>::new();
-    push_form(&mut plain, s, form);
-    let spelling = plain.written()?; // it is never longer than the room
+    push_form(&mut plain, s, Some(form))?; // it has a form
+    let spelling = plain.written().ok()?; // and is never longer than the room
     let end = spelling.len();
     let y = symbol(m, spelling, Span { start: 0, end });
     if is_same(spelling, y, s, term.unit) {

@@ -19,11 +19,12 @@ pub struct SymbolAt {
     pub unit: UnitAt,
 }
 
-// A unit: the row of a known one in the table of units, or the letters of an unknown one in the label.
+// A unit: the letters of an unknown one in the label, or the row of a known one in the table of units. The unknown one is first: so a `Content`, which starts
+// with unknown units without letters, takes less time to fill.
 #[derive(Clone, Copy, PartialEq, Eq)]
 pub enum UnitAt {
-    Known(u8),
     Unknown(Span),
+    Known(u8),
 }
 
 // The bytes of a label from `start` up to `end`. It is no `DigitRange` of crate label: the definitions of label/specs speak of digits by that.

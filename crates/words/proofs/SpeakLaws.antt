@@ -19,12 +19,11 @@ use Rattle.reading.specs.Views.{reading_in}
 use Rattle.reading.specs.Answers.{AcceptedReading}
 use Rattle.reading.proofs.Answering.{accepted_number}
 use Rattle.rewriting.specs.Sources.{source_terms}
-use Rattle.rewriting.proofs.TextLaws.{held_whole, from_start}
+use Rattle.rewriting.specs.declared.text.Unkept.{Unkept}
+use Rattle.rewriting.proofs.TextLaws.{same_Ok, held_whole, from_start}
 use Rattle.rewriting.proofs.Delivering.{refused_first}
 use Rattle.words.specs.Speech.{SaysWords, ShortWords, words_answer}
-use Rattle.std.specs.Prelude.{Option, Some}
-use Rattle.std.proofs.lemmas.Option.{same_Some}
-use Rattle.std.specs.Prelude.{min}
+use Rattle.std.specs.Prelude.{Result, Ok, min}
 
 -- WORDS WITHOUT THE FIRST SPACE
 
@@ -41,7 +40,7 @@ spaces_size (w ∷ ws) = omega arith
 -- WORDS THAT WERE WRITTEN
 
 -- what was written is all of them
-pub written_words : {u v : Option (List ℕ)} {ws : List Word} → ShortWords ws → u ≡ Some [] → SaysWords (suc most_spoken) u ws v → v ≡ Some (spaced_words ws)
+pub written_words : {u v : Result (List ℕ) Unkept} {ws : List Word} → ShortWords ws → u ≡ Ok [] → SaysWords (suc most_spoken) u ws v → v ≡ Ok (spaced_words ws)
 written_words {ws = ws} h e a = from_start e a.says ∙ held_whole (suc most_spoken) (spaced_words ws) h.short
 
 -- without the first space, if there is one
@@ -57,10 +56,10 @@ rest_is : (x : List ℕ) (n : ℕ) → take (length x - n) (drop n x) ≡ drop n
 rest_is x n = take_all (length x - n) (drop n x) (simp length-drop (omega arith))
 
 -- what is delivered of the words that were written
-pub words_given : (x : List ℕ) {v : Option (List ℕ)} (ws : List Word) (n : ℕ) → v ≡ Some (spaced_words ws) → v ≡ Some x → n ≡ min (length x) 1
+pub words_given : (x : List ℕ) {v : Result (List ℕ) Unkept} (ws : List Word) (n : ℕ) → v ≡ Ok (spaced_words ws) → v ≡ Ok x → n ≡ min (length x) 1
     → take (length x - n) (drop n x) ≡ joined_words ws
 words_given x ws n k m f =
-    let q : x ≡ spaced_words ws = same_Some _ _ (sym m ∙ k) in
+    let q : x ≡ spaced_words ws = same_Ok (sym m ∙ k) in
     rest_is x n ∙ ap (λ (y : List ℕ). drop n y) q ∙ without_space ws n (f ∙ ap (λ (y : List ℕ). min (length y) 1) q)
 
 joined_short : (ws : List Word) → length (joined_words ws) ≤ length (spaced_words ws)

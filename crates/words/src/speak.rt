@@ -26,7 +26,7 @@ fn say_into(k: Tens, s: &[u8], content: &Content, buffer: &mut [u8]) -> Result<u
 {
     let mut text = Text::<SPEECH_ROOM>::new();
     say_label(&mut text, k, s, content);
-    let Some(spoken) = text.written() else {
+    let Ok(spoken) = text.written() else {
         return Ok(0); // the words are never longer than the room
     };
     let start = spoken.len().min(1); // where there are no words there is no space

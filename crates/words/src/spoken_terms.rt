@@ -1,5 +1,5 @@
 // The terms of a label in words.
-ghost use Rattle.std.specs.Prelude.{[], ◌∷◌, ◌++◌};
+ghost use Rattle.std.specs.Prelude.{[], ◌∷◌, ◌++◌, Ok};
 ghost use Rattle.label.specs.Bytes.{bytes};
 ghost use Rattle.label.specs.Words.{letter_words, symbol_words, exponent_words, factor_words, terms_words};
 ghost use Rattle.symbols.specs.Views.{symbol_in};
@@ -46,11 +46,12 @@ fn say_symbol<const N: usize>(text: &mut Text<N>, s: &[u8], symbol: SymbolAt)
     }
 }
 
-// Writes the factor and the terms.
+// Writes the factor and the terms, in place of what was written before.
 pub fn say_label<const N: usize>(text: &mut Text<N>, k: Tens, s: &[u8], content: &Content)
     requires { AllTerms s.now content.now }
-    ensures { SaysWords N text.old (factor_words k ++ terms_words (source_terms s.now content.now)) text.new }
+    ensures { SaysWords N (Ok []) (factor_words k ++ terms_words (source_terms s.now content.now)) text.new }
 {
+    text.clear();
     say_factor(text, k);
     let terms = &content.terms.items[..content.terms.count];
     for (term, symbol) in terms.iter().zip(&content.symbols) {

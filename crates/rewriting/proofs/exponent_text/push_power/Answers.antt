@@ -5,14 +5,14 @@ use lib.Dec.{eqb}
 use borrow.Author.Tests.{eq-eqb, ne_eqb, not-true, not-false}
 use Rattle.label.specs.Choice.{pick}
 use Rattle.notations.specs.Styles.{style_in}
-use Rattle.rewriting.proofs.TextLaws.{writes_nothing, has_form}
+use Rattle.rewriting.proofs.TextLaws.{writes_nothing, has_form, lacks_form, form_lost}
 use Rattle.rewriting.proofs.PowerLaws.{power_fraction, power_none, power_one, power_whole}
 use Rattle.rewriting.proofs.exponent_text.push_power.Goals as goal
 use Rattle.rewriting.proofs.exponent_text.push_power.Goals.{then-power-via-then-power, then-power-via-else-power+then-power-ne1-2}
 
 pub returns-then-not-style : goal.returns-then-not-style
 unfolding style_in
-returns-then-not-style g c = power_none _ _ _ _ c.if-power-ne1.true (not-true _ c.if-not-style.true)
+returns-then-not-style g c = lacks_form (power_none _ _ _ _ c.if-power-ne1.true (not-true _ c.if-not-style.true)) (form_lost c.lose_form.ensures)
 
 pub returns-then-power-ne1 : goal.returns-then-power-ne1
 unfolding style_in

@@ -8,7 +8,7 @@ use mir.Val.{SFits}
 use mir.Facts.{to_z-of_z}
 use Rattle.label.specs.Bytes.{bytes}
 use Rattle.label.specs.Writing.{figures}
-use Rattle.rewriting.proofs.TextLaws.{writes_nothing, writes_both, has_form}
+use Rattle.rewriting.proofs.TextLaws.{writes_nothing, writes_both, has_form, lacks_form, form_lost}
 use Rattle.rewriting.proofs.NumberLaws.{is_below}
 use Rattle.rewriting.proofs.PowerLaws.{factor_omitted, factor_none, factor_some}
 use Rattle.rewriting.proofs.factor_text.push_factor.Goals as goal
@@ -23,7 +23,7 @@ pub returns-then-not-style : goal.returns-then-not-style
 returns-then-not-style g c =
     let fits : SFits w32 c.args.k.0 = record { sfits = omega arith } in
     let size = c.from-size.ensures ∙ c.unsigned_abs.ensures.value ∙ ap nat_abs (to_z-of_z fits) in
-    factor_none _ _ size c.if-size-eq0.false (not-true _ c.if-not-style.true)
+    lacks_form (factor_none _ _ size c.if-size-eq0.false (not-true _ c.if-not-style.true)) (form_lost c.lose_form.ensures)
 
 pub returns : goal.returns
 unfolding figures bytes

@@ -52,4 +52,4 @@ returns g c =
     turns t x (count t) i
     (zip_end (terms t (count t)) x c.loop-term.yielded c.into_iter-term-iterator.result c.loop-term.term-iterator c.next.new.self c.next.result
     (cc) (cc) c.loop-term.yielded_by c.in-None.is c.next.ensures.steps) room (omega (arith, c.requires.few)) in
-    all_said c.loop-term.invariant _ c.say_factor.ensures (omega arith)
+    rw (← c.clear.ensures) (all_said c.loop-term.invariant _ c.say_factor.ensures (omega arith))

@@ -14,7 +14,7 @@ use Rattle.std.proofs.lemmas.List.{take_more}
 use Rattle.std.specs.Prelude.{Option, Some, None, Result, Ok, Err}
 use Rattle.label.specs.Writing.{both_texts}
 use Rattle.rewriting.specs.declared.text.Unkept.{Unkept}
-use Rattle.rewriting.specs.declared.text.Unkept.TheVariants.{TooLong, Formless}
+use Rattle.rewriting.specs.declared.text.Unkept.TheVariants.{Overlong, WithoutForm}
 use Rattle.rewriting.specs.Texts.{held, Adds, Writes, WritesForm, LosesForm, WritesText}
 
 -- BOTH TEXTS
@@ -105,7 +105,7 @@ pub held_whole : (n : ℕ) (x : List ℕ) → length x ≤ n → held n (some x)
 unfolding held
 held_whole n x h = rw (le-leb (length x) n h, held)
 
-pub held_long : (n : ℕ) (x : List ℕ) → n < length x → held n (some x) ≡ Err TooLong
+pub held_long : (n : ℕ) (x : List ℕ) → n < length x → held n (some x) ≡ Err Overlong
 unfolding held
 held_long n x h = rw (lt-leb (length x) n h, held)
 
@@ -114,16 +114,16 @@ pub held_some : (n : ℕ) (x : List ℕ) {y : List ℕ} → Ok y ≡ held n (som
 unfolding held
 held_some n x {y} e = go (leb (length x) n) refl e
   where
-    go : (b : Bool) → leb (length x) n ≡ b → Ok y ≡ (elim b as (λ (z : Bool). Result (List ℕ) Unkept) [ true ↦ Ok x | false ↦ Err TooLong ]) → (x ≡ y) × (length x ≤ n)
+    go : (b : Bool) → leb (length x) n ≡ b → Ok y ≡ (elim b as (λ (z : Bool). Result (List ℕ) Unkept) [ true ↦ Ok x | false ↦ Err Overlong ]) → (x ≡ y) × (length x ≤ n)
     go true p q = (cc, leb-true (length x) n p)
     go false p q = absurd (cc)
 
 -- one that is not is longer
-pub held_over : (n : ℕ) (x : List ℕ) {u : Unkept} → Err u ≡ held n (some x) → (u ≡ TooLong) × (n < length x)
+pub held_over : (n : ℕ) (x : List ℕ) {u : Unkept} → Err u ≡ held n (some x) → (u ≡ Overlong) × (n < length x)
 unfolding held
 held_over n x {u} e = go (leb (length x) n) refl e
   where
-    go : (b : Bool) → leb (length x) n ≡ b → Err u ≡ (elim b as (λ (z : Bool). Result (List ℕ) Unkept) [ true ↦ Ok x | false ↦ Err TooLong ]) → (u ≡ TooLong) × (n < length x)
+    go : (b : Bool) → leb (length x) n ≡ b → Err u ≡ (elim b as (λ (z : Bool). Result (List ℕ) Unkept) [ true ↦ Ok x | false ↦ Err Overlong ]) → (u ≡ Overlong) × (n < length x)
     go true p q = absurd (cc)
     go false p q = (cc, leb-false (length x) n p)
 
@@ -153,11 +153,11 @@ module _ {n : ℕ} {v : Result (List ℕ) Unkept} (byte : ℕ) where
           rw (add-one k, take-suc-set b k byte (omega arith), ← w.0) (sym (held_whole n (x ++ byte ∷ []) (simp length-append (omega arith))))
 
   -- the array is full
-  pub push_over : (b : List ℕ) (k : ℕ) → Ok (take k b) ≡ v → length b ≡ n → k ≤ n → n ≤ k → Writes n v (byte ∷ []) (Err TooLong)
+  pub push_over : (b : List ℕ) (k : ℕ) → Ok (take k b) ≡ v → length b ≡ n → k ≤ n → n ≤ k → Writes n v (byte ∷ []) (Err Overlong)
   unfolding both_texts
   push_over b k e h l g = record { adds = λ o p. go o (e ∙ p) }
     where
-      go : (o : Maybe (List ℕ)) → Ok (take k b) ≡ held n o → Err TooLong ≡ held n (both_texts o (some (byte ∷ [])))
+      go : (o : Maybe (List ℕ)) → Ok (take k b) ≡ held n o → Err Overlong ≡ held n (both_texts o (some (byte ∷ [])))
       go none p = absurd (formless_held n p)
       go (some x) p =
           let w = held_some n x p in
@@ -176,7 +176,7 @@ module _ {n : ℕ} {v : Result (List ℕ) Unkept} (byte : ℕ) where
           rw w.0 (sym (held_long n (x ++ byte ∷ []) (simp length-append (omega (arith, w.1)))))
 
 -- a piece without a form
-pub form_lost : {n : ℕ} {v w : Result (List ℕ) Unkept} → w ≡ Err Formless → Adds n v none w
+pub form_lost : {n : ℕ} {v w : Result (List ℕ) Unkept} → w ≡ Err WithoutForm → Adds n v none w
 unfolding held
 form_lost e = record { adds = λ x p. rw (both_none x) e }
 

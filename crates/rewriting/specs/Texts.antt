@@ -3,7 +3,7 @@ use Rattle.std.specs.Prelude.{ℕ, ◌≡◌, true, false, leb, List, length, Op
 use Rattle.std.proofs.Math.Option.{Option as Maybe, some, none}
 use Rattle.label.specs.Writing.{both_texts}
 use Rattle.rewriting.specs.declared.text.Unkept.{Unkept}
-use Rattle.rewriting.specs.declared.text.Unkept.TheVariants.{TooLong, Formless}
+use Rattle.rewriting.specs.declared.text.Unkept.TheVariants.{Overlong, WithoutForm}
 
 -- how many bytes the array of a spelling has: 255 letters with a prefix and quotes fit
 abbrev pub text_room : ℕ
@@ -11,8 +11,8 @@ text_room = 260
 
 -- what an array of n bytes keeps of the text o: the whole, or why it is not kept
 unfoldable pub held : ℕ → Maybe (List ℕ) → Result (List ℕ) Unkept
-held n none = Err Formless
-held n (some x) = elim (leb (length x) n) [ true ↦ Ok x | false ↦ Err TooLong ]
+held n none = Err WithoutForm
+held n (some x) = elim (leb (length x) n) [ true ↦ Ok x | false ↦ Err Overlong ]
 
 -- from the value v to w of an array of n bytes, the text o is written after what was there; where one of both has no form, the whole has none
 pub record Adds (n : ℕ) (v : Result (List ℕ) Unkept) (o : Maybe (List ℕ)) (w : Result (List ℕ) Unkept) : Type 0 where

@@ -1,7 +1,7 @@
 // A text that is written piece by piece into an array.
 ghost use Rattle.std.specs.Prelude.{[], ◌∷◌, ◌≡◌, Ok, Err, MatchResult};
 ghost use Rattle.label.specs.Choice.{pick};
-ghost use Rattle.rewriting.specs.declared.text.Unkept.TheVariants.{Formless};
+ghost use Rattle.rewriting.specs.declared.text.Unkept.TheVariants.{WithoutForm};
 ghost use Rattle.rewriting.specs.Texts.{Writes};
 
 use std::marker::Model;
@@ -13,9 +13,9 @@ pub const ROOM: usize = 260;
 #[derive(Clone, Copy)]
 pub enum Unkept {
     // It is longer than the array.
-    TooLong,
+    Overlong,
     // A piece of it has no form.
-    Formless,
+    WithoutForm,
 }
 
 // A text in an array of `N` bytes. A longer one is not kept, nor one without a form.
@@ -58,7 +58,7 @@ impl<const N: usize> Text<N> {
                 self.bytes[length] = byte;
                 Ok(length + 1)
             }
-            Ok(_) => Err(Unkept::TooLong),
+            Ok(_) => Err(Unkept::Overlong),
             Err(unkept) => Err(unkept),
         };
     }
@@ -90,9 +90,9 @@ impl<const N: usize> Text<N> {
 
     // A piece has no form, so the text has none.
     pub fn lose_form(&mut self)
-        ensures { self.new ≡ Err Formless }
+        ensures { self.new ≡ Err WithoutForm }
     {
-        self.length = Err(Unkept::Formless);
+        self.length = Err(Unkept::WithoutForm);
     }
 
     // What is written, or why it is not kept.

@@ -44,7 +44,7 @@ use Rattle.rewriting.specs.Texts.{text_room, held, WritesForm}
 use Rattle.rewriting.specs.Letters.{letters_of, most_in_prefix}
 use Rattle.rewriting.specs.Names.{name_at, names_in, NamesOf, OwnOf}
 use Rattle.rewriting.specs.Forms.{name_text, form_text, written_form, NameInside}
-use Rattle.rewriting.specs.Units.{PrefixCode, UnitInside, LettersInside, Owns, plain_name, plain_text, PlainName, PlainOf}
+use Rattle.rewriting.specs.Units.{PrefixCode, UnitInside, LettersInside, Owns, plain_name, plain_text, PlainName, NameAlone, PlainOf}
 use Rattle.rewriting.proofs.TextLaws.{same_Ok, ok_err, held_whole, from_start}
 use Rattle.rewriting.proofs.LetterLaws.{letters_most}
 use Rattle.rewriting.proofs.NameTable.{name_letters}
@@ -186,6 +186,16 @@ module _ (m : ℕ) (r : SourceTerm) {x : NameRange} {u : ℕ} (q : r.unit.unit �
     name = rw q (record { start = refl; end = refl });
     prefix = w.letters;
   }
+
+-- its name stands alone, or its letters
+pub plain_alone : {m : ℕ} {r : SourceTerm} {f : UnitForm} → PlainOf m r (Some f) → NameAlone r.unit.unit f.name
+plain_alone {r = r} {f = f} w = go r.unit.unit f.name w.name
+  where
+    go : (u : UnitAt) (n : NameForm) → PlainName u n → NameAlone u n
+    go (unit.Known u) (Plain k p) q = q
+    go (unit.Known u) (Quoted k p) q = absurd q
+    go (unit.Unknown l) (Plain k p) q = q
+    go (unit.Unknown l) (Quoted k p) q = absurd q
 
 module _ {m : ℕ} {s : List ℕ} {r : SourceTerm} {f : UnitForm} (w : PlainOf m r (Some f)) (v : LettersInside s r.unit) where
   pub plain_in : NameInside s f.name

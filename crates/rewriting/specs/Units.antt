@@ -68,6 +68,13 @@ PlainName (unit.Known u) (Plain key p) = EmptySpan p
 PlainName (unit.Unknown l) (Plain key p) = LettersAlone key p l
 PlainName u (Quoted key p) = ⊥
 
+-- what a form of a unit has after its prefix, plainly or in quotes: the name of a known unit alone, or the letters of an unknown one alone
+abbrev pub NameAlone : UnitAt → NameForm → Type 0
+NameAlone (unit.Known u) (Plain key p) = EmptySpan p
+NameAlone (unit.Known u) (Quoted key p) = ⊥
+NameAlone (unit.Unknown l) (Plain key p) = LettersAlone key p l
+NameAlone (unit.Unknown l) (Quoted key p) = LettersAlone key p l
+
 -- f is the form of a term's unit without quotes in notation m
 pub record PlainOf (m : ℕ) (r : SourceTerm) (f : Option UnitForm) : Type 0 where
   pub text : (own : List ℕ) → Owns own r → (s : List ℕ) → written_form s f ≡ plain_text m own s r.unit

@@ -5,7 +5,7 @@ ghost use Rattle.label.specs.Writing.{same_symbol, symbol_text};
 ghost use Rattle.symbols.specs.Views.{symbol_in};
 ghost use Rattle.notations.specs.Styles.{style_in};
 ghost use Rattle.rewriting.specs.Forms.{written_form, NameInside};
-ghost use Rattle.rewriting.specs.Units.{PrefixCode, LettersInside, Owns, PlainOf};
+ghost use Rattle.rewriting.specs.Units.{PrefixCode, LettersInside, Owns, PlainOf, NameAlone};
 
 use crate::form::{NameForm, UnitForm, push_form};
 use crate::name::{Own, name_in, names_of};
@@ -70,6 +70,7 @@ pub fn form_of(style: Style, s: &[u8], term: SourceTerm) -> Option<UnitForm>
     ensures by_index { (own : List ℕ) → Owns own term
         → written_form s.now result ≡ symbol_text (style_in style) style.notation own (symbol_in s.now term.unit) }
     ensures form_in { IfSome result (λ form. NameInside s.now form.name) }
+    ensures alone { IfSome result (λ form. NameAlone term.unit.unit form.name) }
 {
     let m = style.notation;
     let form = plain_form(m, term)?;

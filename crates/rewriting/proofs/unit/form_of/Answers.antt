@@ -1,7 +1,18 @@
 -- `rewriting::unit::form_of` meets its contract: no name, read as the same, quoted, not to be quoted, or known.
+use mathlib.Core.Path.{refl}
 use Rattle.notations.specs.Styles.{style_in}
-use Rattle.rewriting.proofs.UnitTexts.{plain_kept, lent_text, is_lent, form_is, unnamed_plain, reads_plain, reads_other, reads_quoted, reads_not}
+use Rattle.rewriting.proofs.UnitTexts.{plain_kept, lent_text, is_lent, form_is, unnamed_plain, plain_alone, reads_plain, reads_other, reads_quoted, reads_not}
 use Rattle.rewriting.proofs.unit.form_of.Goals as goal
+
+-- A NAME ALONE, OR LETTERS ALONE
+
+pub returns-then-is_same-clause-alone : goal.returns-then-is_same-clause-alone
+returns-then-is_same-clause-alone c = plain_alone c.in_ok-form.ensures
+
+pub returns-in-Unknown-clause-alone : goal.returns-in-Unknown-clause-alone
+returns-in-Unknown-clause-alone c = rw c.in-Unknown.is (record { keyless = refl; letters = refl })
+
+-- THE TEXT
 
 pub returns-in_err-form-clause-by_index : goal.returns-in_err-form-clause-by_index
 returns-in_err-form-clause-by_index c =
